@@ -1,0 +1,32 @@
+//! The values that all crates of the pool share: octets and lists, numbers, origins and targets, identities,
+//! requests and responses, and the book of scripted peers. Each can be copied whole, and contracts see lists as lists.
+//!
+//! `Request::build` reads a URL by the URL Standard into a request of RFC 9110, and `authority` writes the host and
+//! the port of an origin as RFC 9110, section 7.2, has it in a `Host` field.
+#![tactic(auto)]
+
+mod field;
+mod identity;
+mod list;
+mod memory;
+mod numbers;
+mod octets;
+mod origin;
+mod peer;
+mod request;
+mod response;
+mod target;
+mod value;
+
+pub use field::{Field, Fields};
+pub use identity::{Identity, Names};
+pub use list::Listed;
+pub use memory::NoMem;
+pub use numbers::{CallerNo, ConnNo, ExchangeNo, Moment, StreamNo};
+pub use octets::Octets;
+pub use origin::{Origin, Scheme, authority};
+pub use peer::{ActKind, Answer, AnswerBody, Answers, Peer, PeerAct, PeerActs, PeerBook};
+pub use request::{BuildFault, Request};
+pub use response::Response;
+pub use target::{Proto, Target, Via};
+pub use value::PlainValue;

@@ -1,0 +1,12 @@
+// Want of memory.
+use std::alloc::AllocError;
+
+/// There was not enough memory. What the call was given to change is as it was before.
+#[derive(Clone, Copy, Debug, PartialEq, Eq)]
+pub struct NoMem;
+
+impl From<AllocError> for NoMem {
+    fn from(_: AllocError) -> NoMem {
+        NoMem
+    }
+}
