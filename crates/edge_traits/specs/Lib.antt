@@ -1,0 +1,6 @@
+pub mod Counts
+pub mod Told
+pub mod Sources
+pub mod Sinks
+pub mod Links
+pub mod Dialers
