@@ -1,6 +1,6 @@
 //! The outside of the pool as traits: sources and sinks of octets, links and the dialers that make them, a clock and
-//! a gate. Each trait has a ghost member that says what contracts see of an object: counts of what it answered, which
-//! never fall, and what it may tell besides. A failure is answered only where the count of faults rose in that call.
+//! a gate. A ghost member of a trait says what contracts see of an object: counts of what it answered, which never
+//! fall, and what it may tell besides. A failure is answered only where the count of faults rose in that call.
 //!
 //! Three laws bind every dialer: a retired link's counts and octets become its dialer's; all links of one dialer
 //! together give at most 4294967296 octets; the log and the records only grow, by `retire` and by `dial`.
