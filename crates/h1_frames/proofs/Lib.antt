@@ -1,3 +1,4 @@
 pub mod HeadFields
+pub mod RequestLines
 pub mod UnitSteps
 pub mod UnitLemmas

@@ -6,8 +6,9 @@
 #![tactic(auto)]
 
 mod head;
+mod request;
 mod unit;
 
-
 pub use head::{Head, HeadRead, read_head};
+pub use request::write_request;
 pub use unit::head_unit;
