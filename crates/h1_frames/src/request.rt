@@ -10,8 +10,10 @@ use std::alloc::Global;
 
 /// The text of a request (RFC 9112, sections 3 and 6): its request line, its host, its fields in order, the length of
 /// its body where that isn't empty or the method expects content, an empty line, and the body.
+#[tactic(auto, using(crate::proofs::ReadBack::reads_back))]
 pub fn write_request(alloc: Global, r: &Request) -> Result<Octets, NoMem>
     ensures text { IfOk result (λ text. text ≡ request_text r.now) }
+    ensures reads_back { IfOk result (λ text. IsSendable r.now → ReadsBack text r.now) }
 {
     let mut text = Octets::new();
     add_request_line(alloc, &mut text, r)?;
