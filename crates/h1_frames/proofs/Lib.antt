@@ -1,0 +1,5 @@
+pub mod HeadFields
+pub mod ReadBack
+pub mod RequestLines
+pub mod UnitSteps
+pub mod UnitLemmas

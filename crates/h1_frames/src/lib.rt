@@ -1,0 +1,14 @@
+//! The frames of HTTP/1.1 on a connection (RFC 9112): how the head of a response is found and read, and how a request
+//! is written.
+//!
+//! `head_unit` finds the lines that make a head, `read_head` answers what they say as soon as they are there and never
+//! before, and what `write_request` writes reads back, by the grammar of httparse, as the request that was given.
+#![tactic(auto)]
+
+mod head;
+mod request;
+mod unit;
+
+pub use head::{Head, HeadRead, read_head};
+pub use request::write_request;
+pub use unit::head_unit;
