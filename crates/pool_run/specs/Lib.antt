@@ -1,0 +1,5 @@
+pub mod Moments
+pub mod JournalWords
+pub mod JournalText
+pub mod SmallForm
+pub mod FirstAnswer
