@@ -4,3 +4,5 @@ pub mod Sources
 pub mod Sinks
 pub mod Links
 pub mod Dialers
+pub mod MemSources
+pub mod MemSinks
