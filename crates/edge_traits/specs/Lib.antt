@@ -6,3 +6,4 @@ pub mod Links
 pub mod Dialers
 pub mod MemSources
 pub mod MemSinks
+pub mod Script

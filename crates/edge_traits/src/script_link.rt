@@ -1,0 +1,160 @@
+// A link that plays a script.
+ghost use Rattle.std.specs.Prelude.{◌≡◌, ◌≤◌, length, take, drop, min, Some, None, IfOk};
+
+use crate::link::{Link, LinkRead, LinkWrite};
+use crate::link_step::{LinkStep, LinkSteps};
+use crate::octet_copy::put_front;
+use net_base::{ConnNo, NoMem};
+use std::alloc::Global;
+
+/// How many octets all links of a dialer give at most, and one that no dial gave.
+pub(crate) const MOST_OCTETS: u64 = 4294967296;
+
+/// A link that plays a script and keeps what goes over it. A write takes its whole piece, but fails at the calls whose
+/// numbers were given; one for which there is no memory isn't counted.
+#[derive(Drop)]
+pub struct ScriptLink {
+    steps: LinkSteps,
+    step: usize,
+    offset: usize,
+    write_fails: Vec<u64>,
+    writes: u64,
+    written: Vec<u8>,
+    received: Vec<u8>,
+    faults: u64,
+    read_quiets: u64,
+    write_quiets: u64,
+    ends: u64,
+    conn: Option<ConnNo>,
+    allowance: u64,
+    ghost within: { length received.items ≤ allowance },
+    ghost fits: { length written.items ≤ 18446744073709551615 },
+}
+
+impl ScriptLink {
+    ghost use Rattle.edge_traits.specs.Script.{link_view, script_state, new_link, new_script};
+
+    /// A link that no dial gave, so it has no place. It gives at most 4294967296 octets.
+    pub fn build(alloc: Global, steps: LinkSteps, write_fails: &[u64]) -> Result<ScriptLink, NoMem>
+        ensures view { IfOk result (λ it. link_view it ≡ new_link None MOST_OCTETS) }
+        ensures script { IfOk result (λ it. script_state it ≡ new_script steps write_fails.now) }
+    {
+        let write_fails = Vec::from_slice(alloc, write_fails)?;
+        Ok(ScriptLink::at_place(alloc, steps, write_fails, None, MOST_OCTETS))
+    }
+
+    /// A link at its place, with what it may give.
+    pub(crate) fn at_place(
+        alloc: Global,
+        steps: LinkSteps,
+        write_fails: Vec<u64>,
+        conn: Option<ConnNo>,
+        allowance: u64,
+    ) -> ScriptLink
+        ensures view { link_view result ≡ new_link conn allowance }
+        ensures script { script_state result ≡ new_script steps write_fails.items }
+    {
+        ScriptLink {
+            steps,
+            step: 0,
+            offset: 0,
+            write_fails,
+            writes: 0,
+            written: Vec::new(alloc),
+            received: Vec::new(alloc),
+            faults: 0,
+            read_quiets: 0,
+            write_quiets: 0,
+            ends: 0,
+            conn,
+            allowance,
+        }
+    }
+}
+
+impl Link for ScriptLink {
+    ghost use Rattle.edge_traits.specs.Script.{link_view, link_within};
+
+    ghost seen = { link_view };
+
+    ghost within = { link_within };
+
+    fn read(&mut self, _alloc: Global, buf: &mut [u8]) -> LinkRead {
+        let left = self.allowance - self.received.len() as u64;
+        if left == 0 {
+            self.ends = self.ends.saturating_add(1);
+            return LinkRead::End;
+        }
+        match self.steps.as_slice().get(self.step) {
+            None => {
+                self.read_quiets = self.read_quiets.saturating_add(1);
+                LinkRead::Quiet
+            }
+            Some(LinkStep::Quiet) => {
+                self.step += 1;
+                self.read_quiets = self.read_quiets.saturating_add(1);
+                LinkRead::Quiet
+            }
+            Some(LinkStep::End) => {
+                self.ends = self.ends.saturating_add(1);
+                LinkRead::End
+            }
+            Some(LinkStep::Fail) => {
+                self.step += 1;
+                self.faults = self.faults.saturating_add(1);
+                LinkRead::Failed
+            }
+            Some(LinkStep::Give(octets)) => {
+                let rest = rest_from(octets.as_slice(), self.offset);
+                let piece = front_of(rest, buf.len(), left);
+                if self.received.extend_from_slice(piece).is_err() {
+                    return LinkRead::NoMem;
+                }
+                put_front(buf, piece);
+                if piece.is_empty() {
+                    self.ends = self.ends.saturating_add(1);
+                }
+                if piece.len() == rest.len() {
+                    self.step += 1;
+                    self.offset = 0;
+                } else {
+                    self.offset = self.offset.saturating_add(piece.len());
+                }
+                LinkRead::Got(piece.len())
+            }
+        }
+    }
+
+    fn write(&mut self, _alloc: Global, piece: &[u8]) -> LinkWrite {
+        let call = self.writes.saturating_add(1);
+        if self.write_fails.contains(&call) {
+            self.writes = call;
+            self.faults = self.faults.saturating_add(1);
+            return LinkWrite::Failed;
+        }
+        if self.written.extend_from_slice(piece).is_err() {
+            return LinkWrite::NoMem;
+        }
+        self.writes = call;
+        LinkWrite::Took(piece.len())
+    }
+}
+
+/// What is left of the octets after so many.
+fn rest_from(octets: &[u8], offset: usize) -> &[u8]
+    ensures { result.now ≡ drop offset octets.now }
+{
+    if offset < octets.len() {
+        &octets[offset..]
+    } else {
+        &[]
+    }
+}
+
+/// As many of the octets as both bounds allow.
+fn front_of(octets: &[u8], size: usize, left: u64) -> &[u8]
+    ensures { result.now ≡ take (min (min (length octets.now) size) left) octets.now }
+{
+    let most = usize::try_from(left).unwrap_or(usize::MAX);
+    &octets[..octets.len().min(size).min(most)]
+}
