@@ -1,6 +1,6 @@
 -- What contracts see of a dialer, and the laws of the outside: what a retired link leaves behind, how many octets all
 -- links of one dialer give, and that the log and the records only grow.
-use Rattle.std.specs.Prelude.{◌≡◌, ℕ, ◌+◌, ◌≤◌, List, [], ◌∷◌, ◌++◌, slice_get, sum_by, Option, None, Some}
+use Rattle.std.specs.Prelude.{◌≡◌, ◌⊎◌, ℕ, ◌+◌, ◌≤◌, List, [], ◌∷◌, ◌++◌, slice_get, sum_by, Option, None, Some}
 use Rattle.net_base.specs.declared.target.Target.{Target}
 use Rattle.net_base.specs.declared.identity.Identity.{Identity}
 use Rattle.net_base.specs.declared.peer.Peer.{Peer}
@@ -8,7 +8,7 @@ use Rattle.edge_traits.specs.declared.dialer.NetKind.{NetKind}
 use Rattle.edge_traits.specs.declared.dialer.Dialed.{Dialed}
 use Rattle.edge_traits.specs.declared.dialer.Dialed.TheVariants.{Up, Failed, NoMem}
 use Rattle.edge_traits.specs.Counts.{Rose, Counts, NoneFell, counts_sum}
-use Rattle.edge_traits.specs.Told.{Grew, IsNoneLeft}
+use Rattle.edge_traits.specs.Told.{Grew, StaysIfTold, IsNoneLeft}
 use Rattle.edge_traits.specs.Links.{Place, LinkView}
 
 -- a retired link: its connection, and the octets that were written to it and received from it
@@ -53,21 +53,28 @@ abbrev pub IsOut : ℕ → Option Place → List Place → Type 0
 IsOut conn None out = ⊥
 IsOut conn (Some place) out = (place.conn ≡ conn) × ((at : ℕ) × (slice_get out at ≡ Some place))
 
--- the same places, in whatever order: each sum over them says so
-abbrev pub SamePlaces : List Place → List Place → Type 0
-SamePlaces before after = (f : Place → ℕ) → sum_by f after ≡ sum_by f before
-
--- the same places but for one, which was taken out
+-- the same places but for one, which was taken out: each sum over them says so
 abbrev pub TakenOut : List Place → Option Place → List Place → Type 0
 TakenOut before None after = ⊥
 TakenOut before (Some place) after = (f : Place → ℕ) → sum_by f before ≡ f place + sum_by f after
 
--- a link as it comes from its dial: for this connection, with nothing given and taken; a dialer that tells its log
--- gives links that tell what was written and received, from nothing at the dial
+-- a dialer was staged; what it told so far it may cease to tell, as over a net whose octets nobody keeps
+pub record Stages (before after : DialerView) (net : NetKind) (peers : List Peer) : Type 0 where
+  pub staged : after.staged ≡ Some (record { net = net; peers = peers })
+  pub counts : after.counts ≡ before.counts
+  pub left : after.left ≡ before.left
+  pub out : after.out ≡ before.out
+  pub log : StaysIfTold before.log after.log
+  pub records : StaysIfTold before.records after.records
+
+-- a link as it comes from its dial: for this connection, with nothing given and taken, written and received; a dialer
+-- that tells its log gives links that tell what was written and received
 pub record IsFreshLink (conn : ℕ) (link : LinkView) (log : Option (List LogLine)) : Type 0 where
   pub place : IsAt conn link.place
   pub gave : link.gave ≡ 0
   pub took : link.took ≡ 0
+  pub nothing_written : IsNoneLeft link.written
+  pub nothing_received : IsNoneLeft link.received
   pub written : (lines : List LogLine) → log ≡ Some lines → link.written ≡ Some []
   pub received : (lines : List LogLine) → log ≡ Some lines → link.received ≡ Some []
 
@@ -86,7 +93,7 @@ pub record DialFailed (before after : DialerView) (conn : ℕ) (target : Target)
   pub faults : Rose before.counts.faults after.counts.faults
   pub counts : NoneFell before.counts after.counts
   pub left : after.left ≤ before.left
-  pub out : SamePlaces before.out after.out
+  pub out : after.out ≡ before.out
   pub log : after.log ≡ before.log
   pub records : Grew before.records (record { conn = conn; target = target; identity = None } ∷ []) after.records
   pub staged : after.staged ≡ before.staged
@@ -95,7 +102,7 @@ pub record DialFailed (before after : DialerView) (conn : ℕ) (target : Target)
 pub record DialLacked (before after : DialerView) : Type 0 where
   pub counts : NoneFell before.counts after.counts
   pub left : after.left ≤ before.left
-  pub out : SamePlaces before.out after.out
+  pub out : after.out ≡ before.out
   pub log : after.log ≡ before.log
   pub records : after.records ≡ before.records
   pub staged : after.staged ≡ before.staged
@@ -107,15 +114,17 @@ Dials seen before conn target Failed after = DialFailed before after conn target
 Dials seen before conn target NoMem after = DialLacked before after
 
 -- a link is retired: its counts are added to the dialer's, what it didn't give comes back, its place is taken out, and
--- what was written and received becomes the log's next line
+-- what was written and received becomes the log's next line, where the link tells it
 pub record Retires (before after : DialerView) (conn : ℕ) (link : LinkView) : Type 0 where
   pub counts : after.counts ≡ counts_sum before.counts link.counts
+  pub kept : NoneFell before.counts after.counts
   pub left : after.left + link.gave ≤ before.left + link.allowance
   pub out : TakenOut before.out link.place after.out
   pub log : (lines : List LogLine) (written received : List ℕ)
       → before.log ≡ Some lines → link.written ≡ Some written → link.received ≡ Some received
       → after.log ≡ Some (lines ++ record { conn = conn; written = written; received = received } ∷ [])
   pub untold : before.log ≡ None → after.log ≡ None
+  pub no_line : (link.written ≡ None) ⊎ (link.received ≡ None) → after.log ≡ before.log
   pub records : after.records ≡ before.records
   pub staged : after.staged ≡ before.staged
 

@@ -20,6 +20,7 @@ pub record SinkTook (before after : SinkView) (piece : List ℕ) (n : ℕ) : Typ
 -- a write that failed
 pub record SinkFailed (before after : SinkView) : Type 0 where
   pub faults : Rose before.faults after.faults
+  pub kept : before.faults ≤ after.faults
   pub written : after.written ≡ before.written
 
 -- a write of the piece; without memory nothing has changed

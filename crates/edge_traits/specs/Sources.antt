@@ -26,6 +26,7 @@ pub record SourceEnded (before after : SourceView) : Type 0 where
 -- a read that failed
 pub record SourceFailed (before after : SourceView) : Type 0 where
   pub faults : Rose before.faults after.faults
+  pub kept : before.faults ≤ after.faults
   pub left : after.left ≡ before.left
 
 -- a read into a buffer of this size, and the buffer afterwards

@@ -1,6 +1,6 @@
 // What makes links.
-ghost use Rattle.std.specs.Prelude.{◌≡◌, ◌≤◌, Some, IsSome, IsNone, OnOk, OnErr};
-ghost use Rattle.edge_traits.specs.Dialers.{DialerView, Dials, Retires, IsOut};
+ghost use Rattle.std.specs.Prelude.{◌≡◌, ◌≤◌, [], None, IsSome, IsNone, OnOk, OnErr};
+ghost use Rattle.edge_traits.specs.Dialers.{DialerView, Stages, Dials, Retires, IsOut};
 
 use crate::link::Link;
 use net_base::{ConnNo, Identity, NoMem, PeerBook, Target};
@@ -34,7 +34,7 @@ pub trait Dialer: Drop {
     /// Hands in the peers that are dialed from now on. It comes once. After `NoMem` nothing has changed.
     fn stage(&mut self, alloc: Global, net: NetKind, peers: &PeerBook) -> Result<(), NoMem>
         requires { IsNone (seen self.old).staged }
-        ensures ok { OnOk result (seen self.new ≡ record (seen self.old) { staged = Some (record { net = net; peers = peers.now }) }) }
+        ensures ok { OnOk result (Stages (seen self.old) (seen self.new) net peers.now) }
         ensures err { OnErr result (seen self.new ≡ seen self.old) };
 
     /// Dials a target for a connection. It reserves the place of the link's line in the log, so that `retire` takes no
@@ -48,6 +48,9 @@ pub trait Dialer: Drop {
         requires { IsOut conn.0 (Self.Link.seen link).place (seen self.old).out }
         ensures { Retires (seen self.old) (seen self.new) conn.0 (Self.Link.seen link) };
 
-    /// All links together give at most 4294967296 octets.
+    /// Before it was staged, no link is out.
+    ghost none_out: { (dialer : Self) → (seen dialer).staged ≡ None → (seen dialer).out ≡ [] };
+
+    /// Never are more than 4294967296 octets left for its links to be given.
     ghost within: { (dialer : Self) → (seen dialer).left ≤ 4294967296 };
 }

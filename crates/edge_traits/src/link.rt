@@ -1,5 +1,5 @@
 // One connection's octets, both ways.
-ghost use Rattle.std.specs.Prelude.{◌≡◌, ◌<◌, length};
+ghost use Rattle.std.specs.Prelude.{◌≡◌, ◌⊎◌, ◌<◌, length};
 ghost use Rattle.edge_traits.specs.Links.{LinkView, LinkReads, LinkWrites, LinkKeeps, IsWithinAllowance};
 
 use std::alloc::Global;
@@ -15,7 +15,7 @@ pub enum LinkRead {
     End,
     /// The read failed.
     Failed,
-    /// There was no memory, and nothing has changed.
+    /// There was no memory, and nothing of the link has changed.
     NoMem,
 }
 
@@ -28,7 +28,7 @@ pub enum LinkWrite {
     Quiet,
     /// The write failed.
     Failed,
-    /// There was no memory, and nothing has changed.
+    /// There was no memory, and nothing of the link has changed.
     NoMem,
 }
 
@@ -45,11 +45,13 @@ pub trait Link: Drop {
         ensures keeps { LinkKeeps (seen self.old) (seen self.new) }
         ensures used_up { (seen self.old).gave ≡ (seen self.old).allowance → result ≡ LinkRead.End };
 
-    /// Writes a piece that isn't empty.
+    /// Writes a piece that isn't empty. Once the link took 18446744073709551615 octets, it answers `Failed` or `NoMem`.
     fn write(&mut self, alloc: Global, piece: &[u8]) -> LinkWrite
         requires { 0 < length piece.now }
         ensures answer { LinkWrites (seen self.old) piece.now result (seen self.new) }
-        ensures keeps { LinkKeeps (seen self.old) (seen self.new) };
+        ensures keeps { LinkKeeps (seen self.old) (seen self.new) }
+        ensures full { (seen self.old).took ≡ 18446744073709551615
+            → (result ≡ LinkWrite.Failed) ⊎ (result ≡ LinkWrite.NoMem) };
 
     /// It gives no more than its allowance, and takes no more than 18446744073709551615 octets.
     ghost within: { (link : Self) → IsWithinAllowance (seen link) };
