@@ -7,3 +7,5 @@ pub mod Dialers
 pub mod MemSources
 pub mod MemSinks
 pub mod Script
+pub mod OutLinks
+pub mod MemDialer

@@ -20,13 +20,13 @@ pub struct ScriptLink {
     write_fails: Vec<u64>,
     writes: u64,
     written: Vec<u8>,
-    received: Vec<u8>,
-    faults: u64,
-    read_quiets: u64,
-    write_quiets: u64,
-    ends: u64,
+    pub(crate) received: Vec<u8>,
+    pub(crate) faults: u64,
+    pub(crate) read_quiets: u64,
+    pub(crate) write_quiets: u64,
+    pub(crate) ends: u64,
     conn: Option<ConnNo>,
-    allowance: u64,
+    pub(crate) allowance: u64,
     ghost within: { length received.items ≤ allowance },
     ghost fits: { length written.items ≤ 18446744073709551615 },
 }
@@ -69,6 +69,14 @@ impl ScriptLink {
             conn,
             allowance,
         }
+    }
+
+    /// What was written and what was received.
+    pub(crate) fn into_bytes(self) -> (Vec<u8>, Vec<u8>)
+        ensures written { (link_view self).written ≡ Some result.0.items }
+        ensures received { (link_view self).received ≡ Some result.1.items }
+    {
+        (self.written, self.received)
     }
 }
 
