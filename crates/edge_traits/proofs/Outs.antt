@@ -1,12 +1,10 @@
 -- The list of the links that are out, as a dialer in memory keeps it.
-use Rattle.std.proofs.Common.{◌≡◌, ℕ, zero, suc, ◌+◌, ◌<◌, List, [], ◌∷◌, get_or, map, sum_by, remove, slice_get, Option, None, Some, refl, sym, ap, ◌∙◌, arith}
+use Rattle.std.proofs.Common.{◌≡◌, ℕ, zero, suc, ◌+◌, ◌<◌, List, [], ◌∷◌, get_or, map, sum_by, remove, slice_get, Some, refl, sym, ap, ◌∙◌, arith}
 use Rattle.std.proofs.lemmas.Option.{slice_get_within, get_or_from_slice_get}
 use Rattle.std.proofs.lemmas.List.Sums.{sum_by-remove, sum_by-cons}
-use Rattle.net_base.specs.declared.numbers.ConnNo.{ConnNo}
 use Rattle.edge_traits.specs.Links.{Place}
-use Rattle.edge_traits.specs.Dialers.{IsOut, TakenOut}
+use Rattle.edge_traits.specs.Dialers.{TakenOut}
 use Rattle.edge_traits.specs.OutLinks.{place_of}
-use Rattle.edge_traits.specs.Script.{place_at}
 use Rattle.edge_traits.specs.declared.out_link.OutLink.{OutLink}
 
 map_sum : {A B : Type 0} (g : A → B) (f : B → ℕ) (xs : List A) → sum_by f (map g xs) ≡ sum_by (λ a. f (g a)) xs
@@ -31,14 +29,3 @@ pub stands : (xs : List OutLink) (at : ℕ) (o : OutLink) → slice_get (map pla
 stands [] at o e = cc
 stands (x ∷ xs) zero o e = let f : place_of x ≡ place_of o = cc in ap Some (place_back x o f)
 stands (x ∷ xs) (suc at) o e = stands xs at o e
-
--- a link that is out for the connection has this place
-pub out_place : (conn : ConnNo) (at : Option ConnNo) (allowance : ℕ) (out : List Place) → IsOut conn.0 (place_at at allowance) out
-    → place_at at allowance ≡ Some (place_of (record { conn = conn; allowance = allowance }))
-out_place conn None allowance out is = absurd is
-out_place conn (Some other) allowance out is = ap (λ (n : ℕ). Some (record { conn = n; mark = allowance ∷ [] })) is.0
-
-pub out_index : (conn : ConnNo) (at : Option ConnNo) (allowance : ℕ) (out : List Place) → IsOut conn.0 (place_at at allowance) out
-    → (i : ℕ) × (slice_get out i ≡ Some (place_of (record { conn = conn; allowance = allowance })))
-out_index conn None allowance out is = absurd is
-out_index conn (Some other) allowance out is = (is.1.0, is.1.1 ∙ out_place conn (Some other) allowance out is)

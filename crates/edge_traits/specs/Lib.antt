@@ -1,5 +1,6 @@
 pub mod Counts
 pub mod Told
+pub mod Counted
 pub mod Sources
 pub mod Sinks
 pub mod Links

@@ -45,11 +45,17 @@ impl MemSink {
 }
 
 impl Sink for MemSink {
-    ghost use Rattle.edge_traits.specs.MemSinks.{sink_view};
+    ghost use Rattle.std.specs.Prelude.{length};
+    ghost use Rattle.edge_traits.specs.Sinks.{SinkWrites};
+    ghost use Rattle.edge_traits.specs.MemSinks.{sink_state, sink_view, SinkPlays};
 
     ghost seen = { sink_view };
 
-    fn write(&mut self, _alloc: Global, piece: &[u8]) -> SinkWrite {
+    fn write(&mut self, _alloc: Global, piece: &[u8]) -> SinkWrite
+        requires { 0 < length piece.now }
+        ensures answer { SinkWrites (sink_view self.old) piece.now result (sink_view self.new) }
+        ensures exact { SinkPlays (sink_state self.old) piece.now result (sink_state self.new) }
+    {
         let call = self.calls.saturating_add(1);
         if self.fails.contains(&call) {
             self.calls = call;

@@ -46,11 +46,17 @@ impl MemSource {
 }
 
 impl Source for MemSource {
-    ghost use Rattle.edge_traits.specs.MemSources.{source_view};
+    ghost use Rattle.std.specs.Prelude.{length};
+    ghost use Rattle.edge_traits.specs.Sources.{SourceReads};
+    ghost use Rattle.edge_traits.specs.MemSources.{source_state, source_view, SourcePlays};
 
     ghost seen = { source_view };
 
-    fn read(&mut self, buf: &mut [u8]) -> SourceRead {
+    fn read(&mut self, buf: &mut [u8]) -> SourceRead
+        requires { 0 < length buf.old }
+        ensures answer { SourceReads (source_view self.old) (length buf.old) buf.new result (source_view self.new) }
+        ensures exact { SourcePlays (source_state self.old) (length buf.old) result (source_state self.new) }
+    {
         self.calls = self.calls.saturating_add(1);
         if self.fails.contains(&self.calls) {
             self.faults = self.faults.saturating_add(1);

@@ -33,11 +33,17 @@ impl SteadySink {
 }
 
 impl Sink for SteadySink {
-    ghost use Rattle.edge_traits.specs.MemSinks.{steady_view};
+    ghost use Rattle.std.specs.Prelude.{◌<◌, length};
+    ghost use Rattle.edge_traits.specs.Sinks.{SinkWrites};
+    ghost use Rattle.edge_traits.specs.MemSinks.{steady_view, steady_written, SteadyPlays};
 
     ghost seen = { steady_view };
 
-    fn write(&mut self, alloc: Global, piece: &[u8]) -> SinkWrite {
+    fn write(&mut self, alloc: Global, piece: &[u8]) -> SinkWrite
+        requires { 0 < length piece.now }
+        ensures answer { SinkWrites (steady_view self.old) piece.now result (steady_view self.new) }
+        ensures exact { SteadyPlays (steady_written self.old) piece.now result (steady_written self.new) }
+    {
         match self.written.extend(alloc, piece) {
             Ok(()) => SinkWrite::Took(piece.len()),
             Err(_) => SinkWrite::NoMem,

@@ -30,11 +30,17 @@ impl SteadySource {
 }
 
 impl Source for SteadySource {
-    ghost use Rattle.edge_traits.specs.MemSources.{steady_view};
+    ghost use Rattle.std.specs.Prelude.{◌<◌, length};
+    ghost use Rattle.edge_traits.specs.Sources.{SourceReads};
+    ghost use Rattle.edge_traits.specs.MemSources.{steady_view, steady_left, SteadyPlays};
 
     ghost seen = { steady_view };
 
-    fn read(&mut self, buf: &mut [u8]) -> SourceRead {
+    fn read(&mut self, buf: &mut [u8]) -> SourceRead
+        requires { 0 < length buf.old }
+        ensures answer { SourceReads (steady_view self.old) (length buf.old) buf.new result (steady_view self.new) }
+        ensures exact { SteadyPlays (steady_left self.old) (length buf.old) result (steady_left self.new) }
+    {
         let n = (self.bytes.len() - self.at).min(buf.len());
         if n == 0 {
             return SourceRead::End;
