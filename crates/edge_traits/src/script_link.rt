@@ -1,5 +1,6 @@
 // A link that plays a script.
-ghost use Rattle.std.specs.Prelude.{◌≡◌, ◌≤◌, length, take, drop, min, Some, None, IfOk};
+ghost use Rattle.std.specs.Prelude.{◌≡◌, ◌≤◌, ◌<◌, ◌+◌, length, take, drop, min, Some, None, IfOk};
+ghost use Rattle.edge_traits.specs.Counted.{ends_after as ends_after_got};
 
 use crate::link::{Link, LinkRead, LinkWrite};
 use crate::link_step::{LinkStep, LinkSteps};
@@ -15,8 +16,7 @@ pub(crate) const MOST_OCTETS: u64 = 4294967296;
 #[derive(Drop)]
 pub struct ScriptLink {
     steps: LinkSteps,
-    step: usize,
-    offset: usize,
+    at: ScriptPlace,
     write_fails: Vec<u64>,
     writes: u64,
     written: Vec<u8>,
@@ -56,8 +56,7 @@ impl ScriptLink {
     {
         ScriptLink {
             steps,
-            step: 0,
-            offset: 0,
+            at: ScriptPlace { step: 0, offset: 0 },
             write_fails,
             writes: 0,
             written: Vec::new(alloc),
@@ -81,25 +80,33 @@ impl ScriptLink {
 }
 
 impl Link for ScriptLink {
-    ghost use Rattle.edge_traits.specs.Script.{link_view, link_within};
+    ghost use Rattle.std.specs.Prelude.{◌⊎◌};
+    ghost use Rattle.edge_traits.specs.Links.{LinkReads, LinkWrites, LinkKeeps};
+    ghost use Rattle.edge_traits.specs.Script.{link_view, link_within, script_state, ScriptReads, ScriptWrites};
 
     ghost seen = { link_view };
 
     ghost within = { link_within };
 
-    fn read(&mut self, _alloc: Global, buf: &mut [u8]) -> LinkRead {
+    fn read(&mut self, _alloc: Global, buf: &mut [u8]) -> LinkRead
+        requires { 0 < length buf.old }
+        ensures answer { LinkReads (link_view self.old) (length buf.old) buf.new result (link_view self.new) }
+        ensures keeps { LinkKeeps (link_view self.old) (link_view self.new) }
+        ensures used_up { (link_view self.old).gave ≡ (link_view self.old).allowance → result ≡ LinkRead.End }
+        ensures exact { ScriptReads (link_view self.old).allowance (link_view self.old).gave (script_state self.old) (script_state self.new) (length buf.old) buf.new result }
+    {
         let left = self.allowance - self.received.len() as u64;
         if left == 0 {
             self.ends = self.ends.saturating_add(1);
             return LinkRead::End;
         }
-        match self.steps.as_slice().get(self.step) {
+        match self.steps.as_slice().get(self.at.step) {
             None => {
                 self.read_quiets = self.read_quiets.saturating_add(1);
                 LinkRead::Quiet
             }
             Some(LinkStep::Quiet) => {
-                self.step += 1;
+                self.at = self.at.next();
                 self.read_quiets = self.read_quiets.saturating_add(1);
                 LinkRead::Quiet
             }
@@ -108,32 +115,32 @@ impl Link for ScriptLink {
                 LinkRead::End
             }
             Some(LinkStep::Fail) => {
-                self.step += 1;
+                self.at = self.at.next();
                 self.faults = self.faults.saturating_add(1);
                 LinkRead::Failed
             }
             Some(LinkStep::Give(octets)) => {
-                let rest = rest_from(octets.as_slice(), self.offset);
+                let rest = rest_from(octets.as_slice(), self.at.offset);
                 let piece = front_of(rest, buf.len(), left);
                 if self.received.extend_from_slice(piece).is_err() {
                     return LinkRead::NoMem;
                 }
                 put_front(buf, piece);
-                if piece.is_empty() {
-                    self.ends = self.ends.saturating_add(1);
-                }
-                if piece.len() == rest.len() {
-                    self.step += 1;
-                    self.offset = 0;
-                } else {
-                    self.offset = self.offset.saturating_add(piece.len());
-                }
-                LinkRead::Got(piece.len())
+                let n = piece.len();
+                self.at = self.at.after(rest.len(), n);
+                self.ends = ends_after(self.ends, n);
+                LinkRead::Got(n)
             }
         }
     }
 
-    fn write(&mut self, _alloc: Global, piece: &[u8]) -> LinkWrite {
+    fn write(&mut self, _alloc: Global, piece: &[u8]) -> LinkWrite
+        requires { 0 < length piece.now }
+        ensures answer { LinkWrites (link_view self.old) piece.now result (link_view self.new) }
+        ensures keeps { LinkKeeps (link_view self.old) (link_view self.new) }
+        ensures full { (link_view self.old).took ≡ 18446744073709551615 → (result ≡ LinkWrite.Failed) ⊎ (result ≡ LinkWrite.NoMem) }
+        ensures exact { ScriptWrites (script_state self.old) (length piece.now) result (script_state self.new) }
+    {
         let call = self.writes.saturating_add(1);
         if self.write_fails.contains(&call) {
             self.writes = call;
@@ -146,6 +153,50 @@ impl Link for ScriptLink {
         self.writes = call;
         LinkWrite::Took(piece.len())
     }
+}
+
+/// Where a script stands: at this step, after so many octets of it.
+#[derive(Clone, Copy)]
+struct ScriptPlace {
+    step: usize,
+    offset: usize,
+}
+
+impl ScriptPlace {
+    /// The front of the next step.
+    fn next(self) -> ScriptPlace
+        requires { self.step < usize.MAX }
+        ensures { result ≡ record { step = self.step + 1; offset = 0 } }
+    {
+        ScriptPlace {
+            step: self.step + 1,
+            offset: 0,
+        }
+    }
+
+    /// After n octets of those that are left of the step, the front of the next one where they are all.
+    fn after(self, left: usize, n: usize) -> ScriptPlace
+        requires step { self.step < usize.MAX }
+        requires offset { self.offset + left ≤ usize.MAX }
+        requires within { n ≤ left }
+        ensures whole { n ≡ left → result ≡ record { step = self.step + 1; offset = 0 } }
+        ensures part { n < left → result ≡ record { step = self.step; offset = self.offset + n } }
+    {
+        if n == left {
+            return self.next();
+        }
+        ScriptPlace {
+            step: self.step,
+            offset: self.offset + n,
+        }
+    }
+}
+
+/// The count of ends after n octets were got.
+fn ends_after(ends: u64, n: usize) -> u64
+    ensures { result ≡ ends_after_got ends n }
+{
+    if n == 0 { ends.saturating_add(1) } else { ends }
 }
 
 /// What is left of the octets after so many.
