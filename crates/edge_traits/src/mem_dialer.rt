@@ -57,11 +57,12 @@ pub struct MemDialer {
 }
 
 impl MemDialer {
-    ghost use Rattle.edge_traits.specs.MemDialer.{dialer_view, new_dialer, line_of, record_of};
+    ghost use Rattle.edge_traits.specs.MemDialer.{dialer_view, dialer_state, new_dialer, new_parts, line_of, record_of};
 
     /// A dialer of these parts, which fails at the dials whose numbers are given. Dials are counted from 1.
     pub fn build(alloc: Global, links: ScriptLinks, dial_fails: &[u64]) -> Result<MemDialer, NoMem>
         ensures view { IfOk result (λ it. dialer_view it ≡ new_dialer) }
+        ensures parts { IfOk result (λ it. dialer_state it ≡ new_parts links dial_fails.now) }
     {
         Ok(MemDialer {
             links,
@@ -98,7 +99,9 @@ impl MemDialer {
 impl Dialer for MemDialer {
     type Link = ScriptLink;
 
-    ghost use Rattle.edge_traits.specs.MemDialer.{dialer_view, dialer_none_out, dialer_within};
+    ghost use Rattle.std.specs.Prelude.{IsSome, OnOk, OnErr};
+    ghost use Rattle.edge_traits.specs.Dialers.{IsOut, Dials, Retires};
+    ghost use Rattle.edge_traits.specs.MemDialer.{dialer_view, dialer_none_out, dialer_within, dialer_state, DialPlays, RetiresPart};
 
     ghost seen = { dialer_view };
 
@@ -106,13 +109,22 @@ impl Dialer for MemDialer {
 
     ghost within = { dialer_within };
 
-    fn stage(&mut self, alloc: Global, net: NetKind, peers: &PeerBook) -> Result<(), NoMem> {
+    fn stage(&mut self, alloc: Global, net: NetKind, peers: &PeerBook) -> Result<(), NoMem>
+        requires { IsNone (dialer_view self.old).staged }
+        ensures ok { OnOk result (dialer_view self.new ≡ record (dialer_view self.old) { staged = Some (record { net = net; peers = peers.now }) }) }
+        ensures err { OnErr result (dialer_view self.new ≡ dialer_view self.old) }
+        ensures parts { dialer_state self.new ≡ dialer_state self.old }
+    {
         let peers = peers.copy(alloc)?;
         self.staged = Some(StagedBook { net, peers });
         Ok(())
     }
 
-    fn dial(&mut self, alloc: Global, conn: ConnNo, target: &Target) -> Dialed<ScriptLink> {
+    fn dial(&mut self, alloc: Global, conn: ConnNo, target: &Target) -> Dialed<ScriptLink>
+        requires { IsSome (dialer_view self.old).staged }
+        ensures answer { Dials link_view (dialer_view self.old) conn.0 target.now result (dialer_view self.new) }
+        ensures exact { DialPlays (dialer_state self.old) conn.0 result (dialer_state self.new) }
+    {
         if self.out.reserve(1).is_err()
             || self.records.reserve(1).is_err()
             || self.log.reserve(self.out.len() + 1).is_err()
@@ -133,7 +145,7 @@ impl Dialer for MemDialer {
             });
             return Dialed::Failed;
         };
-        let allowance = self.left - self.left / 2;
+        let allowance = (self.left + 1) / 2;
         let Ok((link, identity, shown)) = play(alloc, part, conn, allowance) else {
             return Dialed::NoMem;
         };
@@ -149,7 +161,11 @@ impl Dialer for MemDialer {
         Dialed::Up(link, identity)
     }
 
-    fn retire(&mut self, conn: ConnNo, link: ScriptLink) {
+    fn retire(&mut self, conn: ConnNo, link: ScriptLink)
+        requires { IsOut conn.0 (link_view link).place (dialer_view self.old).out }
+        ensures law { Retires (dialer_view self.old) (dialer_view self.new) conn.0 (link_view link) }
+        ensures exact { RetiresPart (dialer_state self.old) (dialer_state self.new) (link_view link) }
+    {
         let allowance = link.allowance;
         take_out(&mut self.out, OutLink { conn, allowance });
         self.left += allowance - link.received.len() as u64;
