@@ -25,6 +25,8 @@ mod source;
 mod steady_sink;
 mod steady_source;
 mod step_clock;
+#[cfg(test)]
+mod tests;
 
 pub use clock::Clock;
 pub use dialer::{Dialed, Dialer, NetKind};
