@@ -75,7 +75,7 @@ new_script steps write_fails = record { script = steps; write_fails = write_fail
 abbrev pub step_taken : ScriptState → List LinkStep → Counts → ScriptState
 step_taken before rest counts = record before { script = rest; counts = counts }
 
--- the steps where so many octets of a Give are left: without any it is done
+-- the steps where these octets of a Give are left: without any the Give is done
 abbrev pub give_left : List ℕ → List LinkStep → List LinkStep
 give_left [] rest = rest
 give_left (octet ∷ more) rest = Give (octet ∷ more) ∷ rest
@@ -86,6 +86,7 @@ pub record StepGives (octets : List ℕ) (rest : List LinkStep) (before after : 
   pub octets_given : take n buffer ≡ take n octets
   pub becomes : after ≡ step_taken before (give_left (drop n octets) rest) (record before.counts { ends = ends_after before.counts.ends n })
 
+-- what a read answers whose step is a Give of these octets; without memory nothing has changed
 abbrev pub GivesStep : List ℕ → List LinkStep → ScriptState → ℕ → List ℕ → LinkRead → ScriptState → Type 0
 GivesStep octets rest before room buffer (reading.Got n) after = StepGives octets rest before after room buffer n
 GivesStep octets rest before room buffer reading.Quiet after = ⊥

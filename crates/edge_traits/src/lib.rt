@@ -36,7 +36,7 @@ pub use link_step::{CallNos, LinkStep, LinkSteps};
 pub use mem_dialer::{DialAttempt, MemDialer, RetiredLink};
 pub use mem_sink::MemSink;
 pub use mem_source::MemSource;
-pub use script_link::ScriptLink;
+pub use script_link::{MOST_OCTETS, ScriptLink};
 pub use script_part::{ScriptLinks, ScriptPart};
 pub use sink::{Sink, SinkWrite};
 pub use source::{Source, SourceRead};

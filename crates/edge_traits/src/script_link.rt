@@ -1,6 +1,6 @@
 // A link that plays a script.
 ghost use Rattle.std.specs.Prelude.{◌≡◌, ◌≤◌, ◌<◌, ◌+◌, length, take, drop, min, Some, None, IfOk};
-ghost use Rattle.edge_traits.specs.Counted.{ends_after as ends_after_got};
+ghost use Rattle.edge_traits.specs.Counted.{ends_after};
 
 use crate::link::{Link, LinkRead, LinkWrite};
 use crate::link_step::{LinkStep, LinkSteps};
@@ -9,7 +9,7 @@ use net_base::{ConnNo, NoMem};
 use std::alloc::Global;
 
 /// How many octets all links of a dialer give at most, and one that no dial gave.
-pub(crate) const MOST_OCTETS: u64 = 4294967296;
+pub const MOST_OCTETS: u64 = 4294967296;
 
 /// A link that plays a script and keeps what goes over it. A write takes its whole piece, but fails at the calls whose
 /// numbers were given; one for which there is no memory isn't counted.
@@ -128,7 +128,7 @@ impl Link for ScriptLink {
                 put_front(buf, piece);
                 let n = piece.len();
                 self.at = self.at.after(rest.len(), n);
-                self.ends = ends_after(self.ends, n);
+                self.ends = ends_after_read(self.ends, n);
                 LinkRead::Got(n)
             }
         }
@@ -193,8 +193,8 @@ impl ScriptPlace {
 }
 
 /// The count of ends after n octets were got.
-fn ends_after(ends: u64, n: usize) -> u64
-    ensures { result ≡ ends_after_got ends n }
+fn ends_after_read(ends: u64, n: usize) -> u64
+    ensures { result ≡ ends_after ends n }
 {
     if n == 0 { ends.saturating_add(1) } else { ends }
 }
