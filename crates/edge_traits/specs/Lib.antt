@@ -1,6 +1,12 @@
 pub mod Counts
 pub mod Told
+pub mod Counted
 pub mod Sources
 pub mod Sinks
 pub mod Links
 pub mod Dialers
+pub mod MemSources
+pub mod MemSinks
+pub mod Script
+pub mod OutLinks
+pub mod MemDialer
