@@ -3,7 +3,7 @@ use Rattle.std.proofs.Common.{◌≡◌, ℕ, zero, suc, ◌+◌, ◌-◌, ◌�
 use Rattle.std.proofs.lemmas.Grind.{common_steps}
 use Rattle.net_base.specs.declared.target.Target.{Target}
 use Rattle.net_base.specs.declared.identity.Identity.{Identity}
-use Rattle.edge_traits.specs.Counts.{Rose, Counts, NoneFell, count_sum, counts_sum}
+use Rattle.edge_traits.specs.Counts.{Rose, Counts, NoneFell, count_sum}
 use Rattle.edge_traits.specs.Told.{Grew}
 use Rattle.edge_traits.specs.Links.{Place, LinkView, LinkKeeps, LinkSame, LinkGave, LinkTook, LinkDid}
 use Rattle.edge_traits.specs.Dialers.{LogLine, DialerView, DialedUp, Retires, IsAt, IsOut, listed}

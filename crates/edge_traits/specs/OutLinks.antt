@@ -1,5 +1,5 @@
 -- The links of a dialer that are out, as a dialer in memory keeps them.
-use Rattle.std.specs.Prelude.{ℕ, [], ◌∷◌}
+use Rattle.std.specs.Prelude.{[], ◌∷◌}
 use Rattle.edge_traits.specs.Links.{Place}
 use Rattle.edge_traits.specs.declared.out_link.OutLink.{OutLink}
 
