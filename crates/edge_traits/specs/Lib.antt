@@ -10,3 +10,6 @@ pub mod MemSinks
 pub mod Script
 pub mod OutLinks
 pub mod MemDialer
+pub mod BookLinks
+pub mod Tables
+pub mod Books

@@ -8,6 +8,8 @@
 //! Beside the traits stand their implementations in memory, which tell all.
 #![tactic(auto)]
 
+mod book_links;
+mod books;
 mod clock;
 mod dialer;
 mod gate;
@@ -25,9 +27,12 @@ mod source;
 mod steady_sink;
 mod steady_source;
 mod step_clock;
+mod tables;
 #[cfg(test)]
 mod tests;
 
+pub use book_links::{NO_TALLY, OutLink, Tally};
+pub use books::Books;
 pub use clock::Clock;
 pub use dialer::{Dialed, Dialer, NetKind};
 pub use gate::{Gate, OpenGate, Point};
