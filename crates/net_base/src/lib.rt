@@ -30,3 +30,6 @@ pub use request::{BuildFault, Request};
 pub use response::Response;
 pub use target::{Proto, Target, Via};
 pub use value::PlainValue;
+
+#[cfg(test)]
+mod tests;
