@@ -1,5 +1,5 @@
 -- The text of a request is a request head and its body.
-use Rattle.std.proofs.Common.{◌≡◌, ◌≢◌, ℕ, zero, suc, ◌+◌, ◌<◌, ◌≤◌, ◌/◌, ◌%◌, ◌==◌, ◌||◌, Bool, true, false, cond, IsTrue, List, [], ◌∷◌, ◌++◌, length, reverse, map, codes, All, if◌then◌else◌, refl, ap, ap₂, sym, ◌∙◌, subst, arith, append_assoc, length-append, lit≤, rules}
+use Rattle.std.proofs.Common.{◌≡◌, ℕ, zero, suc, ◌<◌, ◌/◌, ◌%◌, ◌==◌, Bool, true, false, cond, IsTrue, List, [], ◌∷◌, ◌++◌, length, reverse, map, codes, All, if◌then◌else◌, refl, ap, ap₂, sym, ◌∙◌, subst, arith, append_assoc, length-append, lit≤, rules}
 use Rattle.std.specs.Fmt.{decimal, digits, digits_onto, digit_glyph}
 use Rattle.std.specs.List.{flat_map}
 use Rattle.std.proofs.lemmas.List.{reverse-append, reverse-reverse}
@@ -15,8 +15,8 @@ use Rattle.net_base.specs.declared.field.Field.{Field}
 use Rattle.net_base.specs.declared.request.Request.{Request}
 use Rattle.net_base.specs.declared.origin.Origin.{Origin}
 use Rattle.net_base.specs.Origins.{authority_text, default_port_of}
-use Rattle.h1_frames.specs.RequestText.{request_line, field_line, field_lines, host_field, needs_length, length_field, sent_fields, request_text}
-use Rattle.h1_frames.specs.ReadsBack.{IsSendableValue, IsSendableField, IsSendable, SaysRequest, ReadsBack}
+use Rattle.h1_frames.specs.RequestText.{request_line, field_lines, host_field, needs_length, length_field, sent_fields, request_text}
+use Rattle.h1_frames.specs.ReadsBack.{IsSendableValue, IsSendableField, IsSendable, ReadsBack}
 
 -- an octet of a value that is no white space
 abbrev IsPlain : ℕ → Type 0
@@ -67,7 +67,7 @@ decimal_some : (n : ℕ) → 0 < length (decimal n)
 unfolding digits
 decimal_some n =
     let one = digit_glyph false (n % 10) in
-    pick_some (n / 10 == 0) (one ∷ []) _ (omega arith) (digits_some 63 (n / 10) one [])
+    pick_some (n / 10 == 0) (one ∷ []) (digits_onto 63 10 false (n / 10) (one ∷ [])) (omega arith) (digits_some 63 (n / 10) one [])
 
 -- Values without white space at their ends.
 
@@ -102,14 +102,14 @@ joined_sendable : (xs ys : List ℕ) → IsSendableValue xs → All IsPlain ys �
 joined_sendable xs ys value all some = record {
   octets = All-append (λ b. IsTrue (is_value_byte b)) xs ys value.octets (plain_octets ys all);
   begins = joined_begins xs ys value all;
-  ends = λ front last e. no_blank last (ends_all IsPlain xs ys front last all some e).1
+  ends = λ front last e. no_blank last (ends_all IsPlain xs ys front last all some e).1;
 }
 
 plain_sendable : (ys : List ℕ) → All IsPlain ys → IsSendableValue ys
 plain_sendable ys all = record {
   octets = plain_octets ys all;
   begins = λ first rest e. no_blank first (begins_all IsPlain ys first rest all e).1;
-  ends = λ front last e. no_blank last (last_all IsPlain front last (subst (All IsPlain) e all)).1
+  ends = λ front last e. no_blank last (last_all IsPlain front last (subst (All IsPlain) e all)).1;
 }
 
 port_sendable : (host : List ℕ) (port : ℕ) → IsSendableValue host → IsSendableValue (host ++ 58 ∷ decimal port)
@@ -194,8 +194,11 @@ text_back r =
 pub reads_back : (r : Request) → IsSendable r → ReadsBack (request_text r) r
 reads_back r is =
     let sent = sent_sendable r is in
-    let fields = All-map IsField written (sent_fields r) (All-weaker IsSendableField (λ f. IsField (written f)) written_field (sent_fields r) sent) in
-    (head_back r,
-    (record { method = is.method; target = (is.path_some, is.path_octets); target_text = is.path_text; minor = lit≤ tt; fields = fields },
-    text_back r),
-    record { method = refl; target = refl; minor = refl; fields = names_and_values (sent_fields r) sent })
+    let fields = All-map IsField written (sent_fields r) (All-weaker IsSendableField (λ f. IsField (written f)) written_field (sent_fields r) sent) in (
+      head_back r,
+      (
+        record { method = is.method; target = (is.path_some, is.path_octets); target_text = is.path_text; minor = lit≤ tt; fields = fields },
+        text_back r,
+      ),
+      record { method = refl; target = refl; minor = refl; fields = names_and_values (sent_fields r) sent },
+    )

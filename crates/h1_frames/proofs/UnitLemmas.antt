@@ -1,7 +1,6 @@
 -- The machine finds exactly the end of a unit.
-use Rattle.std.proofs.Common.{◌≡◌, ◌⊎◌, inl, inr, ℕ, zero, suc, ◌+◌, ◌<◌, ◌≤◌, ◌==◌, Bool, true, false, List, [], ◌∷◌, ◌++◌, length, take, drop, get_or, Option, Some, None, option_map, All, refl, ap, sym, ◌∙◌, subst, arith, append_assoc, add-one}
-use Rattle.std.specs.List.{flat_map}
-use Rattle.std.proofs.lemmas.Bool.{eqb-true, eqb-false, cond-true, cond-false}
+use Rattle.std.proofs.Common.{◌≡◌, ◌⊎◌, inl, inr, ℕ, zero, suc, ◌+◌, ◌<◌, ◌≤◌, ◌==◌, Bool, true, false, List, [], ◌∷◌, ◌++◌, length, take, drop, get_or, Option, Some, None, option_map, All, refl, ap, sym, ◌∙◌, subst, arith, append_assoc}
+use Rattle.std.proofs.lemmas.Bool.{eqb-true, eqb-false}
 use Rattle.std.proofs.lemmas.List.Elements.{All-nil, All-cons, All-head, All-tail}
 use Rattle.std.proofs.lemmas.List.{drop_more, drop_all}
 use Rattle.h1_frames.specs.declared.unit.Place.{Place}
@@ -93,14 +92,22 @@ full_before line rest full tail =
     (line ∷ tail.0, tail.1, All-cons IsFullLine line tail.0 full tail.2, tail.3, line_before line rest (tail.0 ++ tail.1 ∷ []) tail.4)
 
 first_full : (line rest : List ℕ) → IsFullLine line → Tail rest → IsHeadUnit (line ++ 10 ∷ rest)
-first_full line rest full tail =
-    ([], line ∷ tail.0, tail.1, record { are_blank = All-nil IsEmptyLine; are_some = omega arith; are_full = All-cons IsFullLine line tail.0 full tail.2; ends = tail.3 },
-    line_before line rest (tail.0 ++ tail.1 ∷ []) tail.4)
+first_full line rest full tail = (
+  [],
+  line ∷ tail.0,
+  tail.1,
+  record { are_blank = All-nil IsEmptyLine; are_some = omega arith; are_full = All-cons IsFullLine line tail.0 full tail.2; ends = tail.3 },
+  line_before line rest (tail.0 ++ tail.1 ∷ []) tail.4,
+)
 
 blank_before : (line rest : List ℕ) → IsEmptyLine line → IsHeadUnit rest → IsHeadUnit (line ++ 10 ∷ rest)
-blank_before line rest empty unit =
-    (line ∷ unit.0, unit.1, unit.2, record { are_blank = All-cons IsEmptyLine line unit.0 empty unit.3.are_blank; are_some = unit.3.are_some; are_full = unit.3.are_full; ends = unit.3.ends },
-    line_before line rest (unit.0 ++ unit.1 ++ unit.2 ∷ []) unit.4)
+blank_before line rest empty unit = (
+  line ∷ unit.0,
+  unit.1,
+  unit.2,
+  record { are_blank = All-cons IsEmptyLine line unit.0 empty unit.3.are_blank; are_some = unit.3.are_some; are_full = unit.3.are_full; ends = unit.3.ends },
+  line_before line rest (unit.0 ++ unit.1 ++ unit.2 ∷ []) unit.4,
+)
 
 last_line : (line rest : List ℕ) → IsEmptyLine line → rest ≡ [] → Tail (line ++ 10 ∷ rest)
 last_line line rest empty e = ([], line, All-nil IsFullLine, empty, line_before line rest [] e)
@@ -119,6 +126,7 @@ octet_cases octet = first (octet == 10) refl
     second : ¬ (octet ≡ 10) → (t : Bool) → (octet == 13) ≡ t → (octet ≡ 10) ⊎ ((octet ≡ 13) ⊎ ((¬ (octet ≡ 10)) × ¬ (octet ≡ 13)))
     second one true e = inr (inl (eqb-true octet 13 e))
     second one false e = inr (inr (one, eqb-false octet 13 e))
+
     first : (t : Bool) → (octet == 10) ≡ t → (octet ≡ 10) ⊎ ((octet ≡ 13) ⊎ ((¬ (octet ≡ 10)) × ¬ (octet ≡ 13)))
     first true e = inl (eqb-true octet 10 e)
     first false e = second (eqb-false octet 10 e) (octet == 13) refl
@@ -244,14 +252,17 @@ full_ends first return (b ∷ line) rest full e at_return at_other at_second = b
   where
     feed : ¬ (b ≡ 10)
     feed = All-head (λ octet. ¬ (octet ≡ 10)) b line full.0
+
     later : IsLine line
     later = All-tail (λ octet. ¬ (octet ≡ 10)) b line full.0
+
     second : (line : List ℕ) → IsLine line → ¬ (IsEmptyLine (13 ∷ line)) → Ends return (line ++ 10 ∷ rest)
     second [] is full = absurd (full (inr refl))
     second (c ∷ line) is full =
         let feed = All-head (λ octet. ¬ (octet ≡ 10)) c line is in
         let later = All-tail (λ octet. ¬ (octet ≡ 10)) c line is in
         ends_step return Within c (line ++ 10 ∷ rest) (at_second c feed) (within_ends line rest later e)
+
     by_octet : (b ≡ 10) ⊎ ((b ≡ 13) ⊎ ((¬ (b ≡ 10)) × ¬ (b ≡ 13))) → Ends first (b ∷ line ++ 10 ∷ rest)
     by_octet (inl is) = absurd (feed is)
     by_octet (inr (inl is)) =

@@ -1,5 +1,5 @@
 -- A machine over octets that finds the end of a unit.
-use Rattle.std.specs.Prelude.{◌≡◌, ℕ, ◌+◌, ◌==◌, List, [], ◌∷◌, Option, Some, None, option_map, if◌then◌else◌}
+use Rattle.std.specs.Prelude.{ℕ, ◌+◌, ◌==◌, List, [], ◌∷◌, Option, Some, None, option_map, if◌then◌else◌}
 use Rattle.h1_frames.specs.declared.unit.Place.{Place}
 use Rattle.h1_frames.specs.declared.unit.Place.TheVariants.{Blank, BlankReturn, Within, Behind, BehindReturn}
 

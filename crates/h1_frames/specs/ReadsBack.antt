@@ -6,12 +6,13 @@ use Rattle.net_base.specs.declared.field.Field.{Field}
 use Rattle.net_base.specs.declared.request.Request.{Request}
 use Rattle.h1_frames.specs.RequestText.{sent_fields}
 
--- a field value of the standard (section 5): octets of a value, of which neither the first nor the last is white space
+-- a field value (RFC 9110, section 5.5): octets of a value, of which neither the first nor the last is white space
 pub record IsSendableValue (value : List ℕ) : Type 0 where
   pub octets : AllPass is_value_byte value
   pub begins : (first : ℕ) (rest : List ℕ) → value ≡ first ∷ rest → ¬ (IsTrue (is_ows first))
   pub ends : (front : List ℕ) (last : ℕ) → value ≡ front ++ last ∷ [] → ¬ (IsTrue (is_ows last))
 
+-- a field whose name is a token (RFC 9110, section 5.1)
 pub record IsSendableField (f : Field) : Type 0 where
   pub name : IsToken f.name
   pub value : IsSendableValue f.value

@@ -12,6 +12,9 @@ use httparse::spans::{EMPTY_HEADER_SPAN, HeaderSpan, parse_response};
 use net_base::{Field, Fields, Listed, NoMem, Octets};
 use std::alloc::Global;
 
+/// The most octets of a unit that is judged.
+const UNIT_MAX: usize = 65536;
+
 /// The head of a response (RFC 9112, sections 4 and 5): the minor version, the status, and the fields in order, their
 /// names in lower case.
 #[derive(Debug, Drop)]
@@ -53,7 +56,7 @@ pub fn read_head(alloc: Global, bytes: &[u8]) -> Result<HeadRead, NoMem>
 {
     match head_unit(bytes) {
         Some(n) => {
-            if n > 65536 {
+            if n > UNIT_MAX {
                 return Ok(HeadRead::Refused);
             }
             match head_from(alloc, &bytes[..n]) {
@@ -63,7 +66,7 @@ pub fn read_head(alloc: Global, bytes: &[u8]) -> Result<HeadRead, NoMem>
             }
         }
         None => {
-            if bytes.len() > 65535 {
+            if bytes.len() >= UNIT_MAX {
                 return Ok(HeadRead::Refused);
             }
             Ok(HeadRead::Part)

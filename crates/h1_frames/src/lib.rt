@@ -7,6 +7,8 @@
 
 mod head;
 mod request;
+#[cfg(test)]
+mod tests;
 mod unit;
 
 pub use head::{Head, HeadRead, read_head};

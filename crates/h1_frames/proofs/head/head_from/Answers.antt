@@ -10,7 +10,7 @@ returns-in-Ok-clause-whole c =
     let unit = c.args.unit.now in
     let spans = c.in-Some.spans in
     let at : (h : ResponseHead) × IsHead unit h × (spans.minor ≡ h.minor) × (spans.status ≡ status_code h)
-        × (map (header_bytes unit) (take spans.count c.head_spans.new.room) ≡ map name_and_value h.fields)
-        = c.in-Some.ensures.head in
+    × (map (header_bytes unit) (take spans.count c.head_spans.new.room) ≡ map name_and_value h.fields)
+    = c.in-Some.ensures.head in
     let fields : c.in-Ok.fields ≡ map kept_field at.0.fields = c.in-Ok.ensures ∙ kept_fields unit _ at.0.fields at.4 in
     (at.0, at.1, rw (at.2, at.3, fields) refl)
