@@ -1,5 +1,10 @@
 pub mod Moments
 pub mod JournalWords
 pub mod JournalText
-pub mod SmallForm
 pub mod FirstAnswer
+pub mod Conversation
+pub mod Serial
+pub mod Exchange
+pub mod Streams
+pub mod Desk
+pub mod Rounds

@@ -1,9 +1,22 @@
-//! The top calls of the pool.
+//! The top calls of the pool. `desk_main` runs a command on one thread over any source, sink and dialers, and its
+//! contract says of every status when it comes and what shows it.
+//!
+//! The command `serial` reads a scenario, runs its exchange by turns over one connection (RFC 9112) and writes the
+//! journal of what happened and a summary. On status 0 the journal is that of the octets that went over the connection.
 #![tactic(auto)]
 
+mod conversation;
+mod desk;
+mod ending;
 mod first_answer;
 mod journal_text;
 mod journal_words;
-mod small_form;
+mod report;
+mod serial;
+mod streams;
 
-pub use small_form::{FormFault, SmallForm, read_form};
+pub use desk::{Finish, desk_main};
+pub use origin_core::InnerDialer;
+
+#[cfg(test)]
+mod tests;

@@ -1,0 +1,121 @@
+-- What the top call answers on `serial`, status by status.
+use Rattle.std.specs.Prelude.{◌≡◌, ◌⊎◌, ℕ, List, [], ◌∷◌, ◌++◌, map, codes, Option, None, Some, Result, Ok, Err, String, string_bytes}
+use Rattle.std.specs.declared.alloc.Global.{Global}
+use Rattle.net_base.specs.declared.memory.NoMem.{NoMem}
+use Rattle.edge_traits.specs.Counts.{Rose}
+use Rattle.edge_traits.specs.Told.{Grew}
+use Rattle.edge_traits.specs.Sources.{SourceView}
+use Rattle.edge_traits.specs.Sinks.{SinkView}
+use Rattle.edge_traits.specs.Dialers.{DialerView}
+use Rattle.scenario_text.specs.declared.small_form.SmallForm.{SmallForm}
+use Rattle.pool_run.specs.declared.report.Refusal.{Refusal}
+use Rattle.pool_run.specs.declared.report.Unbuilt.{Unbuilt}
+use Rattle.pool_run.specs.declared.report.Report.{Report}
+use Rattle.pool_run.specs.declared.report.Report.TheVariants as report
+use Rattle.pool_run.specs.declared.ending.Ending.{Ending}
+use Rattle.pool_run.specs.declared.ending.Ending.TheVariants as ending
+use Rattle.pool_run.specs.Streams.{IsInput, WritesFront}
+use Rattle.scenario_text.specs.SmallForm.{IsForm}
+use Rattle.pool_run.specs.Serial.{IsRefused, HasForm, AnsweredOnce, IsUnbuilt, Reports, report_text, refusal_line, unbuilt_line}
+
+-- the words of the command
+abbrev pub IsSerial : List (String Global) → Type 0
+IsSerial words = map string_bytes words ≡ codes "serial" ∷ []
+
+-- only the first dialer has changed, and it so
+abbrev pub FirstChanged : List DialerView → List DialerView → (DialerView → DialerView → Type 0) → Type 0
+FirstChanged before after P =
+    (v : DialerView) × (w : DialerView) × (others : List DialerView) × (before ≡ v ∷ others) × (after ≡ w ∷ others) × P v w
+
+-- status 0: the input is of the small form; its exchange was answered over connection 1 of the first dialer; its journal
+-- and summary were written
+abbrev pub AnswersExchange : SourceView → SinkView → List DialerView → SinkView → List DialerView → Type 0
+AnswersExchange source sink before written after =
+    (form : SmallForm) × (text : List ℕ) × HasForm source.left form × FirstChanged before after (λ v w. AnsweredOnce v w form text)
+    × Grew sink.written text written.written
+
+-- status 3: the input is refused, its line was written, and nothing was staged and dialed
+abbrev pub RefusesInput : SourceView → SinkView → List DialerView → SinkView → List DialerView → Type 0
+RefusesInput source sink before written after =
+    (why : Refusal) × IsRefused source.left why × (after ≡ before) × Grew sink.written (refusal_line why) written.written
+
+-- status 4: a read failed, and nothing was written, staged and dialed
+abbrev pub FailsReading : SourceView → SourceView → SinkView → List DialerView → SinkView → List DialerView → Type 0
+FailsReading source read sink before written after = Rose source.faults read.faults × (written ≡ sink) × (after ≡ before)
+
+-- a front of the text that the run has was written
+abbrev pub WritesReport : SourceView → SinkView → List DialerView → SinkView → List DialerView → Type 0
+WritesReport source sink before written after =
+    (told : Report) × FirstChanged before after (λ v w. Reports source.left v told w) × WritesFront sink (report_text told) written
+
+-- status 5: a write failed, behind a front of the text that the run has
+abbrev pub FailsWriting : SourceView → SinkView → List DialerView → SinkView → List DialerView → Type 0
+FailsWriting source sink before written after =
+    Rose sink.faults written.faults × WritesReport source sink before written after
+
+-- status 6: want of memory, with nothing written, or a front of the text that the run has
+abbrev pub LacksMemory : SourceView → SinkView → List DialerView → SinkView → List DialerView → Type 0
+LacksMemory source sink before written after = (written ≡ sink) ⊎ WritesReport source sink before written after
+
+-- status 8: the input is of the small form; its course can't be told yet, and the word that says why was written
+abbrev pub LeavesUnbuilt : SourceView → SinkView → List DialerView → SinkView → List DialerView → Type 0
+LeavesUnbuilt source sink before written after =
+    (form : SmallForm) × (word : Unbuilt) × HasForm source.left form × FirstChanged before after (λ v w. IsUnbuilt v w form word)
+    × Grew sink.written (unbuilt_line word) written.written
+
+-- ---- the same by how the run ended
+
+-- what a run has to say, or nothing where a read failed
+abbrev pub HasReport : SourceView → DialerView → Result (Option Report) NoMem → SourceView → DialerView → Type 0
+HasReport source before (Ok (Some told)) read after = Reports source.left before told after
+HasReport source before (Ok None) read after = Rose source.faults read.faults × (after ≡ before)
+HasReport source before (Err e) read after = Unit {0}
+
+-- what writing a report came to
+abbrev pub TellsReport : SinkView → Report → Ending → SinkView → Type 0
+TellsReport sink told (ending.Told r) written = (r ≡ told) × Grew sink.written (report_text told) written.written
+TellsReport sink told (ending.SinkFailed r) written =
+    (r ≡ told) × Rose sink.faults written.faults × WritesFront sink (report_text told) written
+TellsReport sink told (ending.LacksMemory (Some r)) written = (r ≡ told) × WritesFront sink (report_text told) written
+TellsReport sink told (ending.LacksMemory None) written = ⊥
+TellsReport sink told ending.SourceFailed written = ⊥
+
+-- how a run ended, over the first dialer alone
+abbrev pub Ends : SourceView → SinkView → DialerView → Ending → SourceView → SinkView → DialerView → Type 0
+Ends source sink before (ending.Told told) read written after =
+    Reports source.left before told after × Grew sink.written (report_text told) written.written
+Ends source sink before ending.SourceFailed read written after = Rose source.faults read.faults × (written ≡ sink) × (after ≡ before)
+Ends source sink before (ending.SinkFailed told) read written after =
+    Reports source.left before told after × Rose sink.faults written.faults × WritesFront sink (report_text told) written
+Ends source sink before (ending.LacksMemory None) read written after = written ≡ sink
+Ends source sink before (ending.LacksMemory (Some told)) read written after =
+    Reports source.left before told after × WritesFront sink (report_text told) written
+
+abbrev pub report_status : Report → ℕ
+report_status (report.Answered text) = 0
+report_status (report.Refused why) = 3
+report_status (report.Unbuilt word) = 8
+
+abbrev pub status_of : Ending → ℕ
+status_of (ending.Told told) = report_status told
+status_of ending.SourceFailed = 4
+status_of (ending.SinkFailed told) = 5
+status_of (ending.LacksMemory told) = 6
+
+-- all that the top call says, by status
+pub record DeskDid (status : ℕ) (source read : SourceView) (sink written : SinkView) (before after : List DialerView) : Type 0 where
+  pub answered : status ≡ 0 → AnswersExchange source sink before written after
+  pub refused : status ≡ 3 → RefusesInput source sink before written after
+  pub source_failed : status ≡ 4 → FailsReading source read sink before written after
+  pub sink_failed : status ≡ 5 → FailsWriting source sink before written after
+  pub memory : status ≡ 6 → LacksMemory source sink before written after
+  pub unbuilt : status ≡ 8 → LeavesUnbuilt source sink before written after
+
+-- a status of a run: told, refused, a read or a write failed, no memory, or unbuilt
+abbrev pub IsRunStatus : ℕ → Type 0
+IsRunStatus status =
+    (status ≡ 0) ⊎ ((status ≡ 3) ⊎ ((status ≡ 4) ⊎ ((status ≡ 5) ⊎ ((status ≡ 6) ⊎ (status ≡ 8)))))
+
+-- a status of the program: 2 for words that are no command, or that of a run
+abbrev pub IsStatus : ℕ → Type 0
+IsStatus status = (status ≡ 2) ⊎ IsRunStatus status

@@ -1,0 +1,139 @@
+-- What a run of `serial` over the small form may say, and what shows it.
+use Rattle.std.specs.Prelude.{◌≡◌, ◌⊎◌, ◌<◌, ◌≤◌, ℕ, List, [], ◌∷◌, ◌++◌, false, length, sum_by, codes, Option, Some, None, Result, Ok, Err}
+use Rattle.net_base.specs.declared.memory.NoMem.{NoMem}
+use Rattle.net_base.specs.declared.origin.Origin.{Origin}
+use Rattle.net_base.specs.declared.target.Target.{Target}
+use Rattle.net_base.specs.declared.target.Proto.TheVariants.{H1, H2}
+use Rattle.net_base.specs.declared.target.Via.TheVariants.{Direct}
+use Rattle.net_base.specs.declared.identity.Identity.{Identity}
+use Rattle.net_base.specs.declared.response.Response.{Response}
+use Rattle.edge_traits.specs.declared.dialer.NetKind.TheVariants.{Inner}
+use Rattle.edge_traits.specs.Counts.{Rose}
+use Rattle.edge_traits.specs.Links.{Place}
+use Rattle.edge_traits.specs.Dialers.{DialerView, DialRecord, LogLine, Staging}
+use Rattle.h1_frames.specs.RequestText.{request_text}
+use Rattle.scenario_text.specs.declared.small_form.SmallForm.{SmallForm}
+use Rattle.pool_run.specs.declared.report.Refusal.{Refusal}
+use Rattle.pool_run.specs.declared.report.Refusal.TheVariants.{TooMany, NotJson, Unsupported}
+use Rattle.pool_run.specs.declared.report.Unbuilt.{Unbuilt}
+use Rattle.pool_run.specs.declared.report.Unbuilt.TheVariants as unbuilt
+use Rattle.pool_run.specs.declared.report.Report.{Report}
+use Rattle.pool_run.specs.declared.report.Report.TheVariants as report
+use Rattle.scenario_text.specs.SmallForm.{IsForm, IsNoForm, IsNoJson}
+use Rattle.pool_run.specs.FirstAnswer.{IsFirstAnswer, Stands}
+use Rattle.pool_run.specs.declared.first_answer.Standing.TheVariants as standing
+use Rattle.pool_run.specs.Conversation.{RoseBy, IsNoAnswer}
+use Rattle.pool_run.specs.JournalText.{exchange_text}
+use Rattle.pool_run.specs.Streams.{IsInput, HasTooMany}
+
+-- ---- the input
+
+-- why an input is refused
+abbrev pub IsRefused : Option (List ℕ) → Refusal → Type 0
+IsRefused left TooMany = HasTooMany left
+IsRefused left NotJson = (bytes : List ℕ) × IsInput left bytes × IsNoJson bytes
+IsRefused left Unsupported = (bytes : List ℕ) × IsInput left bytes × IsNoForm bytes
+
+-- the one line that says why
+abbrev pub refusal_line : Refusal → List ℕ
+refusal_line TooMany = codes "refused too-many / 67108865" ++ 10 ∷ []
+refusal_line NotJson = codes "refused not-json" ++ 10 ∷ []
+refusal_line Unsupported = codes "refused unsupported /" ++ 10 ∷ []
+
+-- ---- the connection
+
+-- items were added at the end of what was told, where it is told still
+abbrev pub AddsIfTold : {A : Type 0} → Option (List A) → List A → Option (List A) → Type 0
+AddsIfTold before more None = Unit {0}
+AddsIfTold {A} before more (Some after) = (items : List A) × (before ≡ Some items) × (after ≡ items ++ more)
+
+-- the target of an http origin itself: its host and its port, clear and direct
+abbrev pub clear_direct : Origin → Target
+clear_direct o = record { host = o.host; port = o.port; secure = false; via = Direct }
+
+-- the dialer was staged with the scenario's peers, dialed connection 1 to the request's origin once, and has no link
+-- out that wasn't; this identity was recorded, and the log has these new lines
+pub record DialedOnce (before after : DialerView) (form : SmallForm) (identity : Option Identity) (lines : List LogLine) : Type 0 where
+  pub staged : after.staged ≡ Some (record { net = Inner; peers = form.peers })
+  pub records : AddsIfTold before.records (record { conn = 1; target = clear_direct form.request.origin; identity = identity } ∷ []) after.records
+  pub log : AddsIfTold before.log lines after.log
+  pub out : (f : Place → ℕ) → sum_by f after.out ≡ sum_by f before.out
+
+-- the one line of connection 1
+abbrev pub one_line : List ℕ → List ℕ → List LogLine
+one_line written received = record { conn = 1; written = written; received = received } ∷ []
+
+-- the exchange went over the connection: the request's text was written, one answer of the first form received, in a
+-- round from 2 on; the text is its journal and summary
+pub record AnsweredOnce (before after : DialerView) (form : SmallForm) (text : List ℕ) : Type 0 where
+  pub identity : Identity
+  pub received : List ℕ
+  pub response : Response
+  pub round : ℕ
+  pub dialed : DialedOnce before after form (Some identity) (one_line (request_text form.request) received)
+  pub proto : identity.proto ≡ H1
+  pub answer : IsFirstAnswer received response
+  pub later : 2 ≤ round
+  pub told : text ≡ exchange_text form.request identity (length (request_text form.request)) round response
+
+-- the connection came up and was retired without an answer: a front of the request's text was written
+pub record CameUp (before after : DialerView) (form : SmallForm) (identity : Identity) (put got : List ℕ) : Type 0 where
+  pub dialed : DialedOnce before after form (Some identity) (one_line put got)
+  pub rest : List ℕ
+  pub begins : request_text form.request ≡ put ++ rest
+
+-- the request's text is out, no whole answer came and reads were quiet 10000 times; or writes were
+abbrev pub IsQuiet : DialerView → DialerView → List ℕ → List ℕ → List ℕ → Type 0
+IsQuiet before after text put got =
+    ((put ≡ text) × Stands got standing.More × RoseBy 10000 before.counts.read_quiets after.counts.read_quiets)
+    ⊎ RoseBy 10000 before.counts.write_quiets after.counts.write_quiets
+
+-- why the course of a run can't be told yet, each word by what shows it
+abbrev pub IsUnbuilt : DialerView → DialerView → SmallForm → Unbuilt → Type 0
+IsUnbuilt before after form unbuilt.Dial = DialedOnce before after form None [] × Rose before.counts.faults after.counts.faults
+IsUnbuilt before after form unbuilt.Identity =
+    (identity : Identity) × CameUp before after form identity [] [] × (identity.proto ≡ H2)
+IsUnbuilt before after form unbuilt.Fault =
+    (identity : Identity) × (put : List ℕ) × (got : List ℕ) × CameUp before after form identity put got
+    × Rose before.counts.faults after.counts.faults
+IsUnbuilt before after form unbuilt.End =
+    (identity : Identity) × (put : List ℕ) × (got : List ℕ) × CameUp before after form identity put got
+    × Rose before.counts.ends after.counts.ends
+IsUnbuilt before after form unbuilt.Octets =
+    (identity : Identity) × (put : List ℕ) × (got : List ℕ) × CameUp before after form identity put got × IsNoAnswer put got
+IsUnbuilt before after form unbuilt.Quiet =
+    (identity : Identity) × (put : List ℕ) × (got : List ℕ) × CameUp before after form identity put got
+    × IsQuiet before after (request_text form.request) put got
+
+abbrev pub unbuilt_line : Unbuilt → List ℕ
+unbuilt_line unbuilt.Dial = codes "unbuilt dial" ++ 10 ∷ []
+unbuilt_line unbuilt.Identity = codes "unbuilt identity" ++ 10 ∷ []
+unbuilt_line unbuilt.Fault = codes "unbuilt fault" ++ 10 ∷ []
+unbuilt_line unbuilt.End = codes "unbuilt end" ++ 10 ∷ []
+unbuilt_line unbuilt.Octets = codes "unbuilt octets" ++ 10 ∷ []
+unbuilt_line unbuilt.Quiet = codes "unbuilt quiet" ++ 10 ∷ []
+
+-- ---- the report
+
+-- the input is of the small form, and this is the form
+abbrev pub HasForm : Option (List ℕ) → SmallForm → Type 0
+HasForm left form = (bytes : List ℕ) × IsInput left bytes × IsForm bytes form
+
+-- what a run of an exchange says
+abbrev pub RunsForm : DialerView → SmallForm → Result Report NoMem → DialerView → Type 0
+RunsForm before form (Ok (report.Answered text)) after = AnsweredOnce before after form text
+RunsForm before form (Ok (report.Refused why)) after = ⊥
+RunsForm before form (Ok (report.Unbuilt word)) after = IsUnbuilt before after form word
+RunsForm before form (Err e) after = Unit {0}
+
+-- what a run says of the octets that its source had left
+abbrev pub Reports : Option (List ℕ) → DialerView → Report → DialerView → Type 0
+Reports left before (report.Answered text) after = (form : SmallForm) × HasForm left form × AnsweredOnce before after form text
+Reports left before (report.Refused why) after = IsRefused left why × (after ≡ before)
+Reports left before (report.Unbuilt word) after = (form : SmallForm) × HasForm left form × IsUnbuilt before after form word
+
+-- the text that is written
+abbrev pub report_text : Report → List ℕ
+report_text (report.Answered text) = text
+report_text (report.Refused why) = refusal_line why
+report_text (report.Unbuilt word) = unbuilt_line word
