@@ -1,5 +1,5 @@
 -- What contracts see of a dialer's books.
-use Rattle.std.specs.Prelude.{◌≡◌, ◌≤◌, ℕ, List, [], map, Option, None, Some, IsSomeAnd}
+use Rattle.std.specs.Prelude.{◌≡◌, ◌≤◌, List, [], map, Option, None, Some, IsSomeAnd}
 use Rattle.std.proofs.Common.{refl, ap, subst}
 use Rattle.std.proofs.Math.Nat.{le_trans, le-add_right}
 use Rattle.net_base.specs.declared.peer.Peer.{Peer}

@@ -1,5 +1,5 @@
 -- The lists that a dialer in memory keeps.
-use Rattle.std.specs.Prelude.{◌≡◌, ◌<◌, ◌≤◌, ◌+◌, ℕ, List, [], length, map, Option, None, Some, vec_capacity}
+use Rattle.std.specs.Prelude.{◌≡◌, ◌<◌, ◌+◌, List, [], length, map, Option, None, Some, vec_capacity}
 use Rattle.edge_traits.specs.Dialers.{LogLine, DialRecord}
 use Rattle.edge_traits.specs.declared.book_links.OutLink.{OutLink}
 use Rattle.edge_traits.specs.declared.tables.RetiredLink.{RetiredLink}
