@@ -1,6 +1,6 @@
 -- The list of the links that are out, as a dialer in memory keeps it.
-use Rattle.std.proofs.Common.{◌≡◌, ℕ, zero, suc, ◌+◌, ◌<◌, ◌≤◌, List, [], ◌∷◌, ◌++◌, length, get_or, take, drop, map, sum_by, remove, slice_get, Some, refl, sym, ap, ◌∙◌, arith, add-one, zero-add}
-use Rattle.std.proofs.lemmas.Option.{slice_get-map, slice_get_within, get_or_from_slice_get}
+use Rattle.std.proofs.Common.{◌≡◌, ℕ, zero, suc, ◌+◌, List, [], ◌∷◌, ◌++◌, get_or, map, sum_by, remove, slice_get, Some, refl, sym, ap, ◌∙◌, arith}
+use Rattle.std.proofs.lemmas.Option.{slice_get_within, get_or_from_slice_get}
 use Rattle.std.proofs.lemmas.List.Sums.{sum_by-remove, sum_by-cons, sum_by_push}
 use Rattle.edge_traits.specs.Links.{Place}
 use Rattle.edge_traits.specs.Dialers.{TakenOut}

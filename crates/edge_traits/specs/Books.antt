@@ -1,5 +1,5 @@
 -- What contracts see of a dialer's books.
-use Rattle.std.specs.Prelude.{◌≡◌, ◌≤◌, ℕ, List, [], map, Option, None, Some, IsSomeAnd}
+use Rattle.std.specs.Prelude.{◌≡◌, ◌≤◌, List, [], map, Option, None, Some, IsSomeAnd}
 use Rattle.std.proofs.Common.{refl, ap, subst}
 use Rattle.std.proofs.Math.Nat.{le_trans, le-add_right}
 use Rattle.net_base.specs.declared.peer.Peer.{Peer}
@@ -7,6 +7,7 @@ use Rattle.edge_traits.specs.Counts.{no_counts}
 use Rattle.edge_traits.specs.Dialers.{Staging, DialerView}
 use Rattle.edge_traits.specs.BookLinks.{place_of, counts_of, allowances}
 use Rattle.edge_traits.specs.Tables.{out_items, log_lines, dial_records, HaveRoom}
+use Rattle.edge_traits.specs.declared.dialer.TheConstants.{MOST_OCTETS}
 use Rattle.edge_traits.specs.declared.books.Staged.{Staged}
 use Rattle.edge_traits.specs.declared.books.Books.{Books}
 
@@ -31,7 +32,7 @@ books_view books = record {
 
 -- before the first dial and before it was staged
 abbrev pub unused_view : DialerView
-unused_view = record { counts = no_counts; left = 4294967296; out = []; log = Some []; records = Some []; staged = None }
+unused_view = record { counts = no_counts; left = MOST_OCTETS; out = []; log = Some []; records = Some []; staged = None }
 
 -- the peers that are dialed
 abbrev pub peers_of : Option Staging → List Peer
@@ -42,8 +43,8 @@ peers_of (Some staging) = staging.peers
 abbrev pub HasRoom : Books → Type 0
 HasRoom books = HaveRoom books.tables
 
--- all links together give at most 4294967296 octets
-pub books_within : (books : Books) → (books_view books).left ≤ 4294967296
+-- all links together give at most MOST_OCTETS octets
+pub books_within : (books : Books) → (books_view books).left ≤ MOST_OCTETS
 books_within books = le_trans (le-add_right books.left (allowances (out_items books.tables))) books.within
 
 -- before they were staged, no link is out

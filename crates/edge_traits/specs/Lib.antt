@@ -7,9 +7,8 @@ pub mod Links
 pub mod Dialers
 pub mod MemSources
 pub mod MemSinks
-pub mod Script
-pub mod OutLinks
-pub mod MemDialer
 pub mod BookLinks
 pub mod Tables
 pub mod Books
+pub mod Script
+pub mod MemDialer

@@ -4,6 +4,7 @@ use Rattle.net_base.specs.declared.numbers.ConnNo.{ConnNo}
 use Rattle.edge_traits.specs.Counts.{Counts, no_counts}
 use Rattle.edge_traits.specs.Counted.{next_call, one_fault, one_read_quiet, one_end, ends_after}
 use Rattle.edge_traits.specs.Links.{Place, LinkView, IsWithinAllowance}
+use Rattle.edge_traits.specs.BookLinks.{counts_of}
 use Rattle.edge_traits.specs.declared.link_step.LinkStep.{LinkStep}
 use Rattle.edge_traits.specs.declared.link_step.LinkStep.TheVariants.{Give, Quiet, End, Fail}
 use Rattle.edge_traits.specs.declared.link.LinkRead.{LinkRead}
@@ -23,7 +24,7 @@ link_view s = record {
   allowance = s.allowance;
   gave = length s.received.items;
   took = length s.written.items;
-  counts = record { faults = s.faults; read_quiets = s.read_quiets; write_quiets = s.write_quiets; ends = s.ends };
+  counts = counts_of s.tally;
   written = Some s.written.items;
   received = Some s.received.items;
 }
@@ -64,7 +65,7 @@ script_state s = record {
   script = given s.at.offset (drop s.at.step s.steps);
   write_fails = s.write_fails.items;
   writes = s.writes;
-  counts = record { faults = s.faults; read_quiets = s.read_quiets; write_quiets = s.write_quiets; ends = s.ends };
+  counts = counts_of s.tally;
 }
 
 -- a script of which no step was taken

@@ -1,16 +1,16 @@
 -- The lists that a dialer in memory keeps.
-use Rattle.std.specs.Prelude.{◌≡◌, ◌<◌, ◌≤◌, ◌+◌, ℕ, List, [], length, map, Option, None, Some, vec_capacity}
+use Rattle.std.specs.Prelude.{◌≡◌, ◌<◌, ◌+◌, List, [], length, map, Option, None, Some, vec_capacity}
 use Rattle.edge_traits.specs.Dialers.{LogLine, DialRecord}
 use Rattle.edge_traits.specs.declared.book_links.OutLink.{OutLink}
-use Rattle.edge_traits.specs.declared.tables.KeptLine.{KeptLine}
-use Rattle.edge_traits.specs.declared.tables.KeptRecord.{KeptRecord}
+use Rattle.edge_traits.specs.declared.tables.RetiredLink.{RetiredLink}
+use Rattle.edge_traits.specs.declared.tables.DialAttempt.{DialAttempt}
 use Rattle.edge_traits.specs.declared.tables.Tables.{Tables}
 
-abbrev pub line_of : KeptLine → LogLine
-line_of l = record { conn = l.conn; written = l.written.items; received = l.received.items }
+abbrev pub line_of : RetiredLink → LogLine
+line_of l = record { conn = l.conn.0; written = l.written.items; received = l.received.items }
 
-abbrev pub record_of : KeptRecord → DialRecord
-record_of r = record { conn = r.conn; target = r.target; identity = r.identity }
+abbrev pub record_of : DialAttempt → DialRecord
+record_of r = record { conn = r.conn.0; target = r.target; identity = r.identity }
 
 -- the same lists
 pub record TablesSame (before after : Tables) : Type 0 where

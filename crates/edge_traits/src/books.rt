@@ -2,11 +2,12 @@
 ghost use Rattle.std.specs.Prelude.{ℕ, ◌≡◌, ◌≤◌, ◌+◌, ◌∷◌, ◌++◌, [], Some, None, map, slice_get};
 ghost use Rattle.edge_traits.specs.Dialers.{TakenOut};
 ghost use Rattle.edge_traits.specs.BookLinks.{place_of, allowances};
-ghost use Rattle.edge_traits.specs.Tables.{line_of, out_items, log_lines, dial_records};
+ghost use Rattle.edge_traits.specs.Tables.{line_of, record_of, out_items, log_lines, dial_records};
+ghost use Rattle.edge_traits.specs.declared.dialer.TheConstants.{MOST_OCTETS};
 
 use crate::book_links::{NO_TALLY, OutLink, Tally};
-use crate::dialer::NetKind;
-use crate::tables::{KeptLine, KeptRecord, Tables};
+use crate::dialer::{MOST_OCTETS, NetKind};
+use crate::tables::{DialAttempt, RetiredLink, Tables};
 use net_base::{ConnNo, Identity, NoMem, Peer, PeerBook, PlainValue, Target};
 use std::alloc::Global;
 
@@ -26,7 +27,7 @@ pub struct Books {
     left: u64,
     tables: Option<Tables>,
     staged: Option<Staged>,
-    ghost within: { left + allowances (out_items tables) ≤ 4294967296 },
+    ghost within: { left + allowances (out_items tables) ≤ MOST_OCTETS },
     ghost none_out: { staged ≡ None → out_items tables ≡ [] },
 }
 
@@ -43,7 +44,7 @@ impl Books {
     {
         Books {
             tally: NO_TALLY,
-            left: 4294967296,
+            left: MOST_OCTETS,
             tables: None,
             staged: None,
         }
@@ -66,6 +67,26 @@ impl Books {
         match &self.staged {
             None => &[],
             Some(staged) => staged.peers.as_slice(),
+        }
+    }
+
+    /// The links that were retired, in order.
+    pub fn log(&self) -> &[RetiredLink]
+        ensures { (books_view self.now).log ≡ Some (map line_of result.now) }
+    {
+        match &self.tables {
+            None => &[],
+            Some(tables) => tables.log.as_slice(),
+        }
+    }
+
+    /// The dials that answered, in order.
+    pub fn records(&self) -> &[DialAttempt]
+        ensures { (books_view self.now).records ≡ Some (map record_of result.now) }
+    {
+        match &self.tables {
+            None => &[],
+            Some(tables) => tables.records.as_slice(),
         }
     }
 
@@ -98,8 +119,8 @@ impl Books {
             conn: conn.0,
             allowance: self.left - self.left / 2,
         };
-        let line = KeptRecord {
-            conn: conn.0,
+        let line = DialAttempt {
+            conn,
             target,
             identity: Some(identity),
         };
@@ -118,8 +139,8 @@ impl Books {
         ensures left { (books_view self.new).left ≡ (books_view self.old).left }
         ensures out { (books_view self.new).out ≡ (books_view self.old).out }
     {
-        let line = KeptRecord {
-            conn: conn.0,
+        let line = DialAttempt {
+            conn,
             target,
             identity: None,
         };
@@ -145,8 +166,8 @@ impl Books {
         ensures left { (books_view self.new).left + length received.items ≡ (books_view self.old).left + place.allowance }
     {
         let back = place.allowance - received.len() as u64;
-        let line = KeptLine {
-            conn: conn.0,
+        let line = RetiredLink {
+            conn,
             written,
             received,
         };
@@ -157,7 +178,7 @@ impl Books {
 }
 
 /// A link that is out is no longer out, and its line stands in the log.
-fn take_back(tables: &mut Option<Tables>, place: OutLink, line: KeptLine)
+fn take_back(tables: &mut Option<Tables>, place: OutLink, line: RetiredLink)
     requires { (at : ℕ) × (slice_get (map place_of (out_items tables.old)) at ≡ Some (place_of place)) }
     ensures taken { TakenOut (map place_of (out_items tables.old)) (Some (place_of place)) (map place_of (out_items tables.new)) }
     ensures sum { allowances (out_items tables.old) ≡ allowances (out_items tables.new) + place.allowance }

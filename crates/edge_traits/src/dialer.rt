@@ -1,10 +1,14 @@
 // What makes links.
 ghost use Rattle.std.specs.Prelude.{◌≡◌, ◌≤◌, [], None, IsSome, IsNone, OnOk, OnErr};
 ghost use Rattle.edge_traits.specs.Dialers.{DialerView, Stages, Dials, Retires, IsOut};
+ghost use Rattle.edge_traits.specs.declared.dialer.TheConstants.{MOST_OCTETS};
 
 use crate::link::Link;
 use net_base::{ConnNo, Identity, NoMem, PeerBook, Target};
 use std::alloc::Global;
+
+/// How many octets all links of a dialer give at most.
+pub const MOST_OCTETS: u64 = 4294967296;
 
 /// The net in which peers are dialed: scripted peers in memory, or TCP over loopback.
 #[derive(Clone, Copy, Debug, PartialEq, Eq)]
@@ -51,6 +55,6 @@ pub trait Dialer: Drop {
     /// Before it was staged, no link is out.
     ghost none_out: { (dialer : Self) → (seen dialer).staged ≡ None → (seen dialer).out ≡ [] };
 
-    /// Never are more than 4294967296 octets left for its links to be given.
-    ghost within: { (dialer : Self) → (seen dialer).left ≤ 4294967296 };
+    /// Never are more than `MOST_OCTETS` octets left for its links to be given.
+    ghost within: { (dialer : Self) → (seen dialer).left ≤ MOST_OCTETS };
 }

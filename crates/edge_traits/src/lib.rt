@@ -3,7 +3,7 @@
 //! fall, and what it may tell besides. A failure is answered only where the count of faults rose in that call.
 //!
 //! Three laws bind every dialer: a retired link's counts and octets become its dialer's; all links of one dialer
-//! together give at most 4294967296 octets; the log and the records only grow, by `retire` and by `dial`.
+//! together give at most `MOST_OCTETS` octets; the log and the records only grow, by `retire` and by `dial`.
 //!
 //! Beside the traits stand their implementations in memory, which tell all.
 #![tactic(auto)]
@@ -19,7 +19,6 @@ mod mem_dialer;
 mod mem_sink;
 mod mem_source;
 mod octet_copy;
-mod out_link;
 mod script_link;
 mod script_part;
 mod sink;
@@ -34,17 +33,18 @@ mod tests;
 pub use book_links::{NO_TALLY, OutLink, Tally};
 pub use books::Books;
 pub use clock::Clock;
-pub use dialer::{Dialed, Dialer, NetKind};
+pub use dialer::{Dialed, Dialer, MOST_OCTETS, NetKind};
 pub use gate::{Gate, OpenGate, Point};
 pub use link::{Link, LinkRead, LinkWrite};
 pub use link_step::{CallNos, LinkStep, LinkSteps};
-pub use mem_dialer::{DialAttempt, MemDialer, RetiredLink};
+pub use mem_dialer::MemDialer;
 pub use mem_sink::MemSink;
 pub use mem_source::MemSource;
-pub use script_link::{MOST_OCTETS, ScriptLink};
+pub use script_link::ScriptLink;
 pub use script_part::{ScriptLinks, ScriptPart};
 pub use sink::{Sink, SinkWrite};
 pub use source::{Source, SourceRead};
 pub use steady_sink::SteadySink;
 pub use steady_source::SteadySource;
 pub use step_clock::StepClock;
+pub use tables::{DialAttempt, RetiredLink};

@@ -1,36 +1,16 @@
 // A dialer in memory.
-ghost use Rattle.std.specs.Prelude.{◌≡◌, ◌≤◌, ◌<◌, ◌+◌, ◌⊎◌, length, map, sum_by, slice_get, Some, None, [], IfOk, IfSome, IsNone, Contains, vec_len, vec_capacity};
-ghost use Rattle.edge_traits.specs.Script.{link_view, script_state, new_link, new_script};
+ghost use Rattle.std.specs.Prelude.{◌≡◌, ◌≤◌, ◌⊎◌, length, map, slice_get, Some, IfOk, IfSome, IsNone, Contains};
+ghost use Rattle.edge_traits.specs.Script.{link_view};
 
+use crate::book_links::OutLink;
+use crate::books::Books;
 use crate::dialer::{Dialed, Dialer, NetKind};
-use crate::out_link::{OutLink, take_out};
-use crate::script_link::{MOST_OCTETS, ScriptLink};
+use crate::link_step::LinkSteps;
+use crate::script_link::ScriptLink;
 use crate::script_part::{ScriptLinks, ScriptPart};
+use crate::tables::{DialAttempt, RetiredLink};
 use net_base::{ConnNo, Identity, NoMem, PeerBook, PlainValue, Target};
 use std::alloc::Global;
-
-/// A link that was retired, with what went over it.
-#[derive(Debug, Drop)]
-pub struct RetiredLink {
-    pub conn: ConnNo,
-    pub written: Vec<u8>,
-    pub received: Vec<u8>,
-}
-
-/// A dial that answered: whom its link shows, or nothing where it failed.
-#[derive(Debug, Drop)]
-pub struct DialAttempt {
-    pub conn: ConnNo,
-    pub target: Target,
-    pub identity: Option<Identity>,
-}
-
-/// What was staged.
-#[derive(Drop)]
-struct StagedBook {
-    net: NetKind,
-    peers: PeerBook,
-}
 
 /// A dialer in memory. Each dial gives a link that plays the next part, with half of what is left as its allowance,
 /// rounded up. A dial fails where its number was given, and where no part is left; one for which there is no memory
@@ -41,27 +21,26 @@ pub struct MemDialer {
     next: usize,
     dial_fails: Vec<u64>,
     dials: u64,
-    faults: u64,
-    read_quiets: u64,
-    write_quiets: u64,
-    ends: u64,
-    left: u64,
-    out: Vec<OutLink>,
-    log: Vec<RetiredLink>,
-    records: Vec<DialAttempt>,
-    staged: Option<StagedBook>,
-    ghost within: { left + sum_by (λ o. o.allowance) out.items ≤ 4294967296 },
-    ghost most: { left ≤ 4294967296 },
-    ghost room: { vec_len log + vec_len out ≤ vec_capacity log },
-    ghost none_out: { staged ≡ None → out.items ≡ [] },
+    books: Books,
+}
+
+/// Copies of what a part gives: what its link plays, and whom it shows, once for the caller and once for the record.
+#[derive(Drop)]
+struct PartCopies {
+    steps: LinkSteps,
+    write_fails: Vec<u64>,
+    shown: Identity,
+    kept: Identity,
 }
 
 impl MemDialer {
-    ghost use Rattle.edge_traits.specs.MemDialer.{dialer_view, dialer_state, new_dialer, new_parts, line_of, record_of};
+    ghost use Rattle.edge_traits.specs.Books.{unused_view};
+    ghost use Rattle.edge_traits.specs.Tables.{line_of, record_of};
+    ghost use Rattle.edge_traits.specs.MemDialer.{dialer_view, dialer_state, new_parts};
 
     /// A dialer of these parts, which fails at the dials whose numbers are given. Dials are counted from 1.
     pub fn build(alloc: Global, links: ScriptLinks, dial_fails: &[u64]) -> Result<MemDialer, NoMem>
-        ensures view { IfOk result (λ it. dialer_view it ≡ new_dialer) }
+        ensures view { IfOk result (λ it. dialer_view it ≡ unused_view) }
         ensures parts { IfOk result (λ it. dialer_state it ≡ new_parts links dial_fails.now) }
     {
         Ok(MemDialer {
@@ -69,15 +48,7 @@ impl MemDialer {
             next: 0,
             dial_fails: Vec::from_slice(alloc, dial_fails)?,
             dials: 0,
-            faults: 0,
-            read_quiets: 0,
-            write_quiets: 0,
-            ends: 0,
-            left: MOST_OCTETS,
-            out: Vec::new(alloc),
-            log: Vec::new(alloc),
-            records: Vec::new(alloc),
-            staged: None,
+            books: Books::new(),
         })
     }
 
@@ -85,14 +56,14 @@ impl MemDialer {
     pub fn log(&self) -> &[RetiredLink]
         ensures { (dialer_view self.now).log ≡ Some (map line_of result.now) }
     {
-        &self.log
+        self.books.log()
     }
 
     /// The dials that answered, in order.
     pub fn records(&self) -> &[DialAttempt]
         ensures { (dialer_view self.now).records ≡ Some (map record_of result.now) }
     {
-        &self.records
+        self.books.records()
     }
 }
 
@@ -115,9 +86,7 @@ impl Dialer for MemDialer {
         ensures err { OnErr result (dialer_view self.new ≡ dialer_view self.old) }
         ensures parts { dialer_state self.new ≡ dialer_state self.old }
     {
-        let peers = peers.copy(alloc)?;
-        self.staged = Some(StagedBook { net, peers });
-        Ok(())
+        self.books.stage(alloc, net, peers)
     }
 
     fn dial(&mut self, alloc: Global, conn: ConnNo, target: &Target) -> Dialed<ScriptLink>
@@ -125,10 +94,7 @@ impl Dialer for MemDialer {
         ensures answer { Dials link_view (dialer_view self.old) conn.0 target.now result (dialer_view self.new) }
         ensures exact { DialPlays (dialer_state self.old) conn.0 result (dialer_state self.new) }
     {
-        if self.out.reserve(1).is_err()
-            || self.records.reserve(1).is_err()
-            || self.log.reserve(self.out.len() + 1).is_err()
-        {
+        if self.books.reserve(alloc).is_err() {
             return Dialed::NoMem;
         }
         let Ok(target) = target.copy(alloc) else {
@@ -137,28 +103,23 @@ impl Dialer for MemDialer {
         let call = self.dials.saturating_add(1);
         let Some(part) = part_at(self.links.as_slice(), self.next, &self.dial_fails, call) else {
             self.dials = call;
-            self.faults = self.faults.saturating_add(1);
-            self.records.push_reserved(DialAttempt {
-                conn,
-                target,
-                identity: None,
-            });
+            self.books.failed(conn, target);
             return Dialed::Failed;
         };
-        let allowance = (self.left + 1) / 2;
-        let Ok((link, identity, shown)) = play(alloc, part, conn, allowance) else {
+        let Ok(copies) = copy_part(alloc, part) else {
             return Dialed::NoMem;
         };
+        let PartCopies {
+            steps,
+            write_fails,
+            shown,
+            kept,
+        } = copies;
         self.dials = call;
         self.next += 1;
-        self.left -= allowance;
-        self.out.push_reserved(OutLink { conn, allowance });
-        self.records.push_reserved(DialAttempt {
-            conn,
-            target,
-            identity: Some(shown),
-        });
-        Dialed::Up(link, identity)
+        let place = self.books.came_up(conn, target, kept);
+        let link = ScriptLink::at_place(alloc, steps, write_fails, Some(conn), place.allowance);
+        Dialed::Up(link, shown)
     }
 
     fn retire(&mut self, conn: ConnNo, link: ScriptLink)
@@ -166,19 +127,13 @@ impl Dialer for MemDialer {
         ensures law { Retires (dialer_view self.old) (dialer_view self.new) conn.0 (link_view link) }
         ensures exact { RetiresPart (dialer_state self.old) (dialer_state self.new) (link_view link) }
     {
-        let allowance = link.allowance;
-        take_out(&mut self.out, OutLink { conn, allowance });
-        self.left += allowance - link.received.len() as u64;
-        self.faults = self.faults.saturating_add(link.faults);
-        self.read_quiets = self.read_quiets.saturating_add(link.read_quiets);
-        self.write_quiets = self.write_quiets.saturating_add(link.write_quiets);
-        self.ends = self.ends.saturating_add(link.ends);
+        let place = OutLink {
+            conn: conn.0,
+            allowance: link.allowance,
+        };
+        let tally = link.tally;
         let (written, received) = link.into_bytes();
-        self.log.push_reserved(RetiredLink {
-            conn,
-            written,
-            received,
-        });
+        self.books.retire(conn, place, tally, written, received);
     }
 }
 
@@ -200,22 +155,17 @@ fn part_at<'a>(
     }
 }
 
-/// A link that plays the part, and the part's identity twice.
-fn play(
-    alloc: Global,
-    part: &ScriptPart,
-    conn: ConnNo,
-    allowance: u64,
-) -> Result<(ScriptLink, Identity, Identity), NoMem>
-    ensures link { IfOk result (λ it. link_view it.0 ≡ new_link (Some conn) allowance) }
-    ensures script { IfOk result (λ it. script_state it.0 ≡ new_script part.now.steps part.now.write_fails) }
-    ensures identity { IfOk result (λ it. it.1 ≡ part.now.identity) }
-    ensures shown { IfOk result (λ it. it.2 ≡ part.now.identity) }
+/// Copies of what a part gives.
+fn copy_part(alloc: Global, part: &ScriptPart) -> Result<PartCopies, NoMem>
+    ensures steps { IfOk result (λ it. it.steps ≡ part.now.steps) }
+    ensures write_fails { IfOk result (λ it. it.write_fails.items ≡ part.now.write_fails) }
+    ensures shown { IfOk result (λ it. it.shown ≡ part.now.identity) }
+    ensures kept { IfOk result (λ it. it.kept ≡ part.now.identity) }
 {
-    let identity = part.identity.copy(alloc)?;
-    let shown = part.identity.copy(alloc)?;
-    let steps = part.steps.copy(alloc)?;
-    let write_fails = Vec::from_slice(alloc, part.write_fails.as_slice())?;
-    let link = ScriptLink::at_place(alloc, steps, write_fails, Some(conn), allowance);
-    Ok((link, identity, shown))
+    Ok(PartCopies {
+        steps: part.steps.copy(alloc)?,
+        write_fails: Vec::from_slice(alloc, part.write_fails.as_slice())?,
+        shown: part.identity.copy(alloc)?,
+        kept: part.identity.copy(alloc)?,
+    })
 }

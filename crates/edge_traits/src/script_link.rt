@@ -2,14 +2,13 @@
 ghost use Rattle.std.specs.Prelude.{◌≡◌, ◌≤◌, ◌<◌, ◌+◌, length, take, drop, min, Some, None, IfOk};
 ghost use Rattle.edge_traits.specs.Counted.{ends_after};
 
+use crate::book_links::{NO_TALLY, Tally};
+use crate::dialer::MOST_OCTETS;
 use crate::link::{Link, LinkRead, LinkWrite};
 use crate::link_step::{LinkStep, LinkSteps};
 use crate::octet_copy::put_front;
 use net_base::{ConnNo, NoMem};
 use std::alloc::Global;
-
-/// How many octets all links of a dialer give at most, and one that no dial gave.
-pub const MOST_OCTETS: u64 = 4294967296;
 
 /// A link that plays a script and keeps what goes over it. A write takes its whole piece, but fails at the calls whose
 /// numbers were given; one for which there is no memory isn't counted.
@@ -20,11 +19,8 @@ pub struct ScriptLink {
     write_fails: Vec<u64>,
     writes: u64,
     written: Vec<u8>,
-    pub(crate) received: Vec<u8>,
-    pub(crate) faults: u64,
-    pub(crate) read_quiets: u64,
-    pub(crate) write_quiets: u64,
-    pub(crate) ends: u64,
+    received: Vec<u8>,
+    pub(crate) tally: Tally,
     conn: Option<ConnNo>,
     pub(crate) allowance: u64,
     ghost within: { length received.items ≤ allowance },
@@ -34,7 +30,7 @@ pub struct ScriptLink {
 impl ScriptLink {
     ghost use Rattle.edge_traits.specs.Script.{link_view, script_state, new_link, new_script};
 
-    /// A link that no dial gave, so it has no place. It gives at most 4294967296 octets.
+    /// A link that no dial gave, so it has no place. It gives at most `MOST_OCTETS` octets.
     pub fn build(alloc: Global, steps: LinkSteps, write_fails: &[u64]) -> Result<ScriptLink, NoMem>
         ensures view { IfOk result (λ it. link_view it ≡ new_link None MOST_OCTETS) }
         ensures script { IfOk result (λ it. script_state it ≡ new_script steps write_fails.now) }
@@ -61,10 +57,7 @@ impl ScriptLink {
             writes: 0,
             written: Vec::new(alloc),
             received: Vec::new(alloc),
-            faults: 0,
-            read_quiets: 0,
-            write_quiets: 0,
-            ends: 0,
+            tally: NO_TALLY,
             conn,
             allowance,
         }
@@ -97,26 +90,26 @@ impl Link for ScriptLink {
     {
         let left = self.allowance - self.received.len() as u64;
         if left == 0 {
-            self.ends = self.ends.saturating_add(1);
+            self.tally.ends = self.tally.ends.saturating_add(1);
             return LinkRead::End;
         }
         match self.steps.as_slice().get(self.at.step) {
             None => {
-                self.read_quiets = self.read_quiets.saturating_add(1);
+                self.tally.read_quiets = self.tally.read_quiets.saturating_add(1);
                 LinkRead::Quiet
             }
             Some(LinkStep::Quiet) => {
                 self.at = self.at.next();
-                self.read_quiets = self.read_quiets.saturating_add(1);
+                self.tally.read_quiets = self.tally.read_quiets.saturating_add(1);
                 LinkRead::Quiet
             }
             Some(LinkStep::End) => {
-                self.ends = self.ends.saturating_add(1);
+                self.tally.ends = self.tally.ends.saturating_add(1);
                 LinkRead::End
             }
             Some(LinkStep::Fail) => {
                 self.at = self.at.next();
-                self.faults = self.faults.saturating_add(1);
+                self.tally.faults = self.tally.faults.saturating_add(1);
                 LinkRead::Failed
             }
             Some(LinkStep::Give(octets)) => {
@@ -128,7 +121,7 @@ impl Link for ScriptLink {
                 put_front(buf, piece);
                 let n = piece.len();
                 self.at = self.at.after(rest.len(), n);
-                self.ends = ends_after_read(self.ends, n);
+                self.tally.ends = ends_after_read(self.tally.ends, n);
                 LinkRead::Got(n)
             }
         }
@@ -144,7 +137,7 @@ impl Link for ScriptLink {
         let call = self.writes.saturating_add(1);
         if self.write_fails.contains(&call) {
             self.writes = call;
-            self.faults = self.faults.saturating_add(1);
+            self.tally.faults = self.tally.faults.saturating_add(1);
             return LinkWrite::Failed;
         }
         if self.written.extend_from_slice(piece).is_err() {

@@ -4,21 +4,21 @@ ghost use Rattle.edge_traits.specs.BookLinks.{place_of, allowances};
 ghost use Rattle.edge_traits.specs.Dialers.{TakenOut};
 
 use crate::book_links::OutLink;
-use net_base::{Identity, NoMem, Target};
+use net_base::{ConnNo, Identity, NoMem, Target};
 use std::alloc::Global;
 
-/// A retired link: its connection, and the octets that were written to it and received from it.
+/// A link that was retired, with what went over it.
 #[derive(Debug, Drop)]
-pub(crate) struct KeptLine {
-    pub conn: u32,
+pub struct RetiredLink {
+    pub conn: ConnNo,
     pub written: Vec<u8>,
     pub received: Vec<u8>,
 }
 
-/// A dial that answered.
+/// A dial that answered: whom its link shows, or nothing where it failed.
 #[derive(Debug, Drop)]
-pub(crate) struct KeptRecord {
-    pub conn: u32,
+pub struct DialAttempt {
+    pub conn: ConnNo,
     pub target: Target,
     pub identity: Option<Identity>,
 }
@@ -27,8 +27,8 @@ pub(crate) struct KeptRecord {
 #[derive(Debug, Drop)]
 pub(crate) struct Tables {
     pub out: Vec<OutLink>,
-    pub log: Vec<KeptLine>,
-    pub records: Vec<KeptRecord>,
+    pub log: Vec<RetiredLink>,
+    pub records: Vec<DialAttempt>,
     ghost room: { length log.items + length out.items ≤ vec_capacity log },
 }
 
@@ -61,7 +61,7 @@ impl Tables {
 
     /// A dial that came up.
     #[tactic(auto, using(crate::proofs::BookPlaces::allowances_push))]
-    pub(crate) fn add_up(&mut self, place: OutLink, line: KeptRecord)
+    pub(crate) fn add_up(&mut self, place: OutLink, line: DialAttempt)
         requires { TablesHaveRoom self.old }
         ensures out { self.new.out.items ≡ self.old.out.items ++ place ∷ [] }
         ensures sum { allowances self.new.out.items ≡ allowances self.old.out.items + place.allowance }
@@ -73,7 +73,7 @@ impl Tables {
     }
 
     /// A dial that failed.
-    pub(crate) fn add_failed(&mut self, line: KeptRecord)
+    pub(crate) fn add_failed(&mut self, line: DialAttempt)
         requires { TablesHaveRoom self.old }
         ensures out { self.new.out.items ≡ self.old.out.items }
         ensures log { self.new.log.items ≡ self.old.log.items }
@@ -83,7 +83,7 @@ impl Tables {
     }
 
     /// A link that is retired.
-    pub(crate) fn take_back(&mut self, place: OutLink, line: KeptLine)
+    pub(crate) fn take_back(&mut self, place: OutLink, line: RetiredLink)
         requires { (at : ℕ) × (slice_get (map place_of self.old.out.items) at ≡ Some (place_of place)) }
         ensures taken { TakenOut (map place_of self.old.out.items) (Some (place_of place)) (map place_of self.new.out.items) }
         ensures sum { allowances self.old.out.items ≡ allowances self.new.out.items + place.allowance }
