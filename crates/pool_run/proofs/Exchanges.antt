@@ -70,17 +70,17 @@ quiet_retired v e w l k target identity text put got up retired (inr h) =
 fault_of : (v e w : DialerView) (l k : LinkView) (target : Target) (identity : Identity) (text : List ℕ)
     → DialedUp v e 1 target l identity → Retires e w 1 k → Says l identity text (Ok (Told talk.Fault)) k → UnbuiltStaged v w target text unbuilt.Fault
 fault_of v e w l k target identity text up retired s =
-    (identity, s.1.0, s.1.1, came_up v e w l k target identity text s.1.0 s.1.1 up s.1.2 retired, rose_retired v e w l k target identity up retired s.1.3)
+    (identity, s.1.0, s.1.1, (came_up v e w l k target identity text s.1.0 s.1.1 up s.1.2 retired, s.0, s.1.3), rose_retired v e w l k target identity up retired s.1.4)
 
 end_of : (v e w : DialerView) (l k : LinkView) (target : Target) (identity : Identity) (text : List ℕ)
     → DialedUp v e 1 target l identity → Retires e w 1 k → Says l identity text (Ok (Told talk.End)) k → UnbuiltStaged v w target text unbuilt.End
 end_of v e w l k target identity text up retired s =
-    (identity, s.1.0, s.1.1, came_up v e w l k target identity text s.1.0 s.1.1 up s.1.2 retired, ended_retired v e w l k target identity up retired s.1.3)
+    (identity, s.1.0, s.1.1, (came_up v e w l k target identity text s.1.0 s.1.1 up s.1.2 retired, s.0, s.1.3), ended_retired v e w l k target identity up retired s.1.4)
 
 quiet_of : (v e w : DialerView) (l k : LinkView) (target : Target) (identity : Identity) (text : List ℕ)
     → DialedUp v e 1 target l identity → Retires e w 1 k → Says l identity text (Ok (Told talk.Quiet)) k → UnbuiltStaged v w target text unbuilt.Quiet
 quiet_of v e w l k target identity text up retired s =
-    (identity, s.1.0, s.1.1, came_up v e w l k target identity text s.1.0 s.1.1 up s.1.2 retired, quiet_retired v e w l k target identity text s.1.0 s.1.1 up retired s.1.3)
+    (identity, s.1.0, s.1.1, (came_up v e w l k target identity text s.1.0 s.1.1 up s.1.2 retired, s.0, s.1.3), quiet_retired v e w l k target identity text s.1.0 s.1.1 up retired s.1.4)
 
 answer_of : (v e w : DialerView) (l k : LinkView) (request : Request) (target : Target) (identity : Identity) (text told : List ℕ) (round : ℕ) (response : Response)
     → DialedUp v e 1 target l identity → Retires e w 1 k → Says l identity text (Ok (Told (talk.Answered round response))) k
@@ -93,7 +93,8 @@ answer_of v e w l k request target identity text told round response up retired 
   dialed = dialed v e w l k target identity text s.1.0 up s.1.1 retired;
   proto = s.0;
   answer = s.1.2;
-  later = s.1.3;
+  quiet = quiet_added 3 _ _ _ _ _ up.counts.read_quiets s.1.3 (ap (λ (c : Counts). c.read_quiets) retired.counts);
+  later = s.1.4;
   journal = is;
 }
 

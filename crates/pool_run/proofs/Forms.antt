@@ -14,8 +14,8 @@ use Rattle.pool_run.specs.declared.report.Unbuilt.TheVariants as unbuilt
 use Rattle.pool_run.specs.declared.report.Report.{Report}
 use Rattle.pool_run.specs.declared.report.Report.TheVariants as report
 use Rattle.pool_run.specs.Conversation.{RoseBy}
-use Rattle.pool_run.specs.Serial.{AddsIfTold, DialedOnce, CameUp, AnsweredOnce, IsUnbuilt, IsQuiet, RunsForm, clear_direct}
-use Rattle.pool_run.specs.Exchange.{DialedStaged, UpStaged, AnsweredStaged, UnbuiltStaged, RunsStaged}
+use Rattle.pool_run.specs.Serial.{AddsIfTold, DialedOnce, CameUp, WasOpen, AnsweredOnce, IsUnbuilt, IsQuiet, RunsForm, clear_direct}
+use Rattle.pool_run.specs.Exchange.{DialedStaged, UpStaged, OpenStaged, AnsweredStaged, UnbuiltStaged, RunsStaged}
 
 adds_from : {A : Type 0} (a b : Option (List A)) (more : List A) (c : Option (List A)) → StaysIfTold a b → Grew b more c → AddsIfTold a more c
 adds_from a b more None stays grew = tt
@@ -40,6 +40,10 @@ up_form u v w form text identity put got stages is up = record {
   begins = sym is ∙ up.begins;
 }
 
+open_form : (u v w : DialerView) (form : SmallForm) (text : List ℕ) (identity : Identity) (put got : List ℕ)
+    → Stages u v Inner form.peers → text ≡ request_text form.request → OpenStaged v w (clear_direct form.request.origin) text identity put got → WasOpen u w form identity put got
+open_form u v w form text identity put got stages is open_ = (up_form u v w form text identity put got stages is open_.0, open_.1, open_.2)
+
 rose_form : (u v : Counts) (a b c : ℕ) → a ≡ b → Rose a c → Rose b c
 rose_form u v a b c is rose = subst (λ (n : ℕ). Rose n c) is rose
 
@@ -58,12 +62,12 @@ unbuilt_form u v w form text unbuilt.Dial stages is s =
     (dialed_form u v w form None [] stages s.0, rose_form v.counts u.counts _ _ _ (ap (λ (c : Counts). c.faults) stages.counts) s.1)
 unbuilt_form u v w form text unbuilt.Identity stages is s = (s.0, up_form u v w form text s.0 [] [] stages is s.1, s.2)
 unbuilt_form u v w form text unbuilt.Fault stages is s =
-    (s.0, s.1, s.2, up_form u v w form text s.0 s.1 s.2 stages is s.3, rose_form v.counts u.counts _ _ _ (ap (λ (c : Counts). c.faults) stages.counts) s.4)
+    (s.0, s.1, s.2, open_form u v w form text s.0 s.1 s.2 stages is s.3, rose_form v.counts u.counts _ _ _ (ap (λ (c : Counts). c.faults) stages.counts) s.4)
 unbuilt_form u v w form text unbuilt.End stages is s =
-    (s.0, s.1, s.2, up_form u v w form text s.0 s.1 s.2 stages is s.3, rose_form v.counts u.counts _ _ _ (ap (λ (c : Counts). c.ends) stages.counts) s.4)
-unbuilt_form u v w form text unbuilt.Octets stages is s = (s.0, s.1, s.2, up_form u v w form text s.0 s.1 s.2 stages is s.3, s.4)
+    (s.0, s.1, s.2, open_form u v w form text s.0 s.1 s.2 stages is s.3, rose_form v.counts u.counts _ _ _ (ap (λ (c : Counts). c.ends) stages.counts) s.4)
+unbuilt_form u v w form text unbuilt.Octets stages is s = (s.0, s.1, s.2, up_form u v w form text s.0 s.1 s.2 stages is s.3, s.4, s.5)
 unbuilt_form u v w form text unbuilt.Quiet stages is s =
-    (s.0, s.1, s.2, up_form u v w form text s.0 s.1 s.2 stages is s.3, quiet_form u v w text (request_text form.request) s.1 s.2 stages.counts is s.4)
+    (s.0, s.1, s.2, open_form u v w form text s.0 s.1 s.2 stages is s.3, quiet_form u v w text (request_text form.request) s.1 s.2 stages.counts is s.4)
 
 answered_form : (u v w : DialerView) (form : SmallForm) (text told : List ℕ)
     → Stages u v Inner form.peers → text ≡ request_text form.request
@@ -79,6 +83,7 @@ answered_form u v w form text told stages is s =
       dialed = dialed_form u v w form (Some r.identity) _ stages r.dialed;
       proto = r.proto;
       answer = r.answer;
+      quiet = rose_by_form 3 _ _ _ (ap (λ (c : Counts). c.read_quiets) stages.counts) r.quiet;
       later = r.later;
       told = r.journal;
     }

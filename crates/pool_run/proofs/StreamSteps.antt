@@ -1,5 +1,5 @@
 -- What reads of a source gave, and what writes to a sink put, taken together.
-use Rattle.std.proofs.Common.{◌≡◌, ℕ, ◌+◌, ◌-◌, ◌≤◌, List, [], ◌∷◌, ◌++◌, zero, suc, length, take, drop, Option, None, Some, refl, ap, ◌∙◌, arith, append_assoc, append-nil, zero-add, suc-add, length-take, length-drop}
+use Rattle.std.proofs.Common.{◌≡◌, ℕ, ◌+◌, ◌-◌, ◌<◌, ◌≤◌, List, [], ◌∷◌, ◌++◌, zero, suc, length, take, drop, Option, None, Some, refl, ap, ◌∙◌, arith, append_assoc, append-nil, zero-add, suc-add, length-take, length-drop}
 use Rattle.std.proofs.lemmas.Grind.{common_steps}
 use Rattle.edge_traits.specs.Counts.{Rose}
 use Rattle.edge_traits.specs.Told.{Gave, Grew, IsNoneLeft}
@@ -76,20 +76,23 @@ put_more u v w s i n h t = record {
 cut : (s : List ℕ) (i : ℕ) → s ≡ take i s ++ drop i s
 cut s i = grind (arith, common_steps)
 
+some_behind : (s : List ℕ) (i : ℕ) → i < length s → 0 < length (drop i s)
+some_behind s i lt = omega (arith, length-drop i s)
+
 -- a front of the text was written
-put_front : (u v : SinkView) (s : List ℕ) (i : ℕ) → HasPut u v (take i s) → WritesFront u s v
-put_front u v s i h = (take i s, drop i s, cut s i, h.written)
+put_front : (u v : SinkView) (s : List ℕ) (i : ℕ) → i < length s → HasPut u v (take i s) → WritesFront u s v
+put_front u v s i lt h = (take i s, drop i s, cut s i, some_behind s i lt, h.written)
 
 -- nothing was taken of the rest
-pub front_refused : (u v w : SinkView) (s : List ℕ) (i n : ℕ) → HasPut u v (take i s) → SinkTook v w (take (length s - i) (drop i s)) n → n ≡ 0
+pub front_refused : (u v w : SinkView) (s : List ℕ) (i n : ℕ) → i < length s → HasPut u v (take i s) → SinkTook v w (take (length s - i) (drop i s)) n → n ≡ 0
     → Rose u.faults w.faults × WritesFront u s w
-front_refused u v w s i n h t none = (rose_later _ _ _ h.faults (t.none none), put_front u w s (i + n) (put_more u v w s i n h t))
+front_refused u v w s i n lt h t none = (rose_later _ _ _ h.faults (t.none none), put_front u w s (i + n) (omega (arith, lt, none)) (put_more u v w s i n h t))
 
 -- the write of the rest failed
-pub front_failed : (u v w : SinkView) (s : List ℕ) (i : ℕ) → HasPut u v (take i s) → SinkFailed v w → Rose u.faults w.faults × WritesFront u s w
-front_failed u v w s i h f =
-    (rose_later _ _ _ h.faults f.faults, (take i s, drop i s, cut s i, grew_same u.written v.written (take i s) w.written h.written f.written))
+pub front_failed : (u v w : SinkView) (s : List ℕ) (i : ℕ) → i < length s → HasPut u v (take i s) → SinkFailed v w → Rose u.faults w.faults × WritesFront u s w
+front_failed u v w s i lt h f =
+    (rose_later _ _ _ h.faults f.faults, (take i s, drop i s, cut s i, some_behind s i lt, grew_same u.written v.written (take i s) w.written h.written f.written))
 
 -- there was no memory to write the rest
-pub front_kept : (u v w : SinkView) (s : List ℕ) (i : ℕ) → HasPut u v (take i s) → w ≡ v → WritesFront u s w
-front_kept u v w s i h same = rw same (put_front u v s i h)
+pub front_kept : (u v w : SinkView) (s : List ℕ) (i : ℕ) → i < length s → HasPut u v (take i s) → w ≡ v → WritesFront u s w
+front_kept u v w s i lt h same = rw same (put_front u v s i lt h)

@@ -10,7 +10,7 @@ use Rattle.edge_traits.specs.Counts.{Rose}
 use Rattle.edge_traits.specs.Links.{LinkView, LinkDid}
 use Rattle.edge_traits.proofs.Steps.{did_none, did_on, rose_later, rose_on}
 use Rattle.pool_run.specs.FirstAnswer.{IsFirstAnswer, BeginsFirst, Stands}
-use Rattle.pool_run.specs.Conversation.{RoseBy, Spoke, IsStuck, Talks}
+use Rattle.pool_run.specs.Conversation.{RoseBy, Spoke, IsOpen, IsStuck, QuietReads, Talks}
 use Rattle.pool_run.specs.Rounds.{Hears, Writes, TakesIn, Idles, Advances, Turns, Judges, Settles}
 use Rattle.pool_run.specs.declared.first_answer.Standing.{Standing}
 use Rattle.pool_run.specs.declared.first_answer.Standing.TheVariants as standing
@@ -33,6 +33,12 @@ rose_by_none k a b z le = omega arith
 
 rose_by_least : (k n a b : ℕ) → n ≤ k → RoseBy k a b → RoseBy n a b
 rose_by_least k n a b le r = omega arith
+
+rose_by_later : (k a b c : ℕ) → a ≤ b → RoseBy k b c → RoseBy k a c
+rose_by_later k a b c le r = omega arith
+
+quiet_later : (k : ℕ) (u v w : LinkView) → u.counts.read_quiets ≤ v.counts.read_quiets → QuietReads k v w → QuietReads k u w
+quiet_later k u v w le r = rose_by_later k u.counts.read_quiets v.counts.read_quiets w.counts.read_quiets le r
 
 pub stands_as : (a b : List ℕ) (s t : Standing) → a ≡ b → s ≡ t → Stands a s → Stands b t
 stands_as a b s t e f h =
@@ -112,9 +118,9 @@ turned v u w text old taken waiting (Ok turn.Going) new le wr is t = record {
   ];
 }
 turned v u w text old taken waiting (Ok turn.Fault) new le wr is t =
-    (wr.0, [], same_on v u w (drop old.sent text) wr.0 [] wr.1 t.0, rose_later v.counts.faults u.counts.faults w.counts.faults wr.1.did.keeps.counts.faults t.1)
+    (wr.0, same_on v u w (drop old.sent text) wr.0 [] wr.1 t.0, rose_later v.counts.faults u.counts.faults w.counts.faults wr.1.did.keeps.counts.faults t.1)
 turned v u w text old taken waiting (Ok turn.End) new le wr is t =
-    (wr.0, [], same_on v u w (drop old.sent text) wr.0 [] wr.1 t.0, rose_later v.counts.ends u.counts.ends w.counts.ends wr.1.did.keeps.counts.ends t.1)
+    (wr.0, same_on v u w (drop old.sent text) wr.0 [] wr.1 t.0, rose_later v.counts.ends u.counts.ends w.counts.ends wr.1.did.keeps.counts.ends t.1)
 turned v u w text old taken waiting (Err e) new le wr is t = (wr.0, t.0, heard_on v u w (drop old.sent text) wr.0 [] t.0 wr.1 t.1)
 
 -- a conversation after some rounds
@@ -160,22 +166,30 @@ speaks_on first now after text old new s a =
       ];
     }
 
+-- nothing more was heard
+silent_on : (u v w : LinkView) (text put got more : List ℕ) (n : ℕ) → Spoke u v text put got → n ≡ length put → Spoke v w (drop n text) more [] → Spoke u w text (put ++ more) got
+silent_on u v w text put got more n s is t = rw append-nil at (spoke_on u v w text put got more [] n s is t)
+
 -- a round that ended by a fault
-pub talks_fault : (first now after : LinkView) (text : List ℕ) (old new : Progress) → Speaks first now text old → Turns now text old (Ok turn.Fault) after new → Talks first text (Ok talk.Fault) after
-talks_fault first now after text old new s t = (
+pub talks_fault : (first now after : LinkView) (text : List ℕ) (old new : Progress) → Speaks first now text old → IsOpen old.received → Turns now text old (Ok turn.Fault) after new
+    → Talks first text (Ok talk.Fault) after
+talks_fault first now after text old new s open_ t = (
   s.put ++ t.0,
-  old.received ++ t.1,
-  spoke_on first now after text s.put old.received t.0 t.1 old.sent s.spoke s.sent t.2,
-  rose_later first.counts.faults now.counts.faults after.counts.faults s.spoke.did.keeps.counts.faults t.3,
+  old.received,
+  silent_on first now after text s.put old.received t.0 old.sent s.spoke s.sent t.1,
+  open_,
+  rose_later first.counts.faults now.counts.faults after.counts.faults s.spoke.did.keeps.counts.faults t.2,
 )
 
 -- a round that ended by the end
-pub talks_end : (first now after : LinkView) (text : List ℕ) (old new : Progress) → Speaks first now text old → Turns now text old (Ok turn.End) after new → Talks first text (Ok talk.End) after
-talks_end first now after text old new s t = (
+pub talks_end : (first now after : LinkView) (text : List ℕ) (old new : Progress) → Speaks first now text old → IsOpen old.received → Turns now text old (Ok turn.End) after new
+    → Talks first text (Ok talk.End) after
+talks_end first now after text old new s open_ t = (
   s.put ++ t.0,
-  old.received ++ t.1,
-  spoke_on first now after text s.put old.received t.0 t.1 old.sent s.spoke s.sent t.2,
-  rose_later first.counts.ends now.counts.ends after.counts.ends s.spoke.did.keeps.counts.ends t.3,
+  old.received,
+  silent_on first now after text s.put old.received t.0 old.sent s.spoke s.sent t.1,
+  open_,
+  rose_later first.counts.ends now.counts.ends after.counts.ends s.spoke.did.keeps.counts.ends t.2,
 )
 
 -- a round without memory
@@ -189,16 +203,17 @@ pub talks_octets : (first now : LinkView) (text : List ℕ) (p : Progress) → S
 talks_octets first now text p s h = (s.put, p.received, s.spoke, inr h)
 
 -- too many rounds were idle
-pub talks_quiet : (first now : LinkView) (text : List ℕ) (p : Progress) → Speaks first now text p → 10000 ≤ p.idle → (p.sent ≡ length text → Stands p.received standing.More)
+pub talks_quiet : (first now : LinkView) (text : List ℕ) (p : Progress) → Speaks first now text p → 10000 ≤ p.idle → IsOpen p.received → (p.sent ≡ length text → Stands p.received standing.More)
     → Talks first text (Ok talk.Quiet) now
-talks_quiet first now text p s many h =
+talks_quiet first now text p s many open_ h =
     elim (cases_lt p.sent (length text)) as (λ x. Talks first text (Ok talk.Quiet) now) [
-      | inl lt ↦ (s.put, p.received, s.spoke, inr (rose_by_least p.idle 10000 first.counts.write_quiets now.counts.write_quiets many (s.writes lt)))
+      | inl lt ↦ (s.put, p.received, s.spoke, open_, inr (rose_by_least p.idle 10000 first.counts.write_quiets now.counts.write_quiets many (s.writes lt)))
       | inr ge ↦
           let all : p.sent ≡ length text = omega (arith, speaks_within first now text p s, ge) in (
             s.put,
             p.received,
             s.spoke,
+            open_,
             inl (
               all_out first now text s.put p.received s.spoke (sym s.sent ∙ all),
               h all,
@@ -226,18 +241,26 @@ pub talks_settled : (first now after : LinkView) (text : List ℕ) (p : Progress
 talks_settled first now after text p round response (Ok (talk.Answered n said)) s all a low high t =
     let e = all_out first now text s.put p.received s.spoke (sym s.sent ∙ all) in
     let P : List ℕ → Type 0 = λ put. LinkDid first after put p.received in
-    let Q : Response → Type 0 = λ x. IsFirstAnswer p.received x in
-    (p.received, subst P e (did_same first now after s.put p.received s.spoke.did t.0), subst Q (sym t.2) a, omega (arith, t.1, low), omega (arith, t.1, high))
+    let Q : Response → Type 0 = λ x. IsFirstAnswer p.received x in (
+      p.received,
+      subst P e (did_same first now after s.put p.received s.spoke.did t.0),
+      subst Q (sym t.3) a,
+      quiet_later 3 first now after s.spoke.did.keeps.counts.read_quiets t.1,
+      omega (arith, t.2, low),
+      omega (arith, t.2, high),
+    )
 talks_settled first now after text p round response (Ok talk.Fault) s all a low high t = (
   s.put,
   p.received,
   same_on first now after text s.put p.received s.spoke t.0,
+  inr (inr (response, a)),
   rose_later first.counts.faults now.counts.faults after.counts.faults s.spoke.did.keeps.counts.faults t.1,
 )
 talks_settled first now after text p round response (Ok talk.End) s all a low high t = (
   s.put,
   p.received,
   same_on first now after text s.put p.received s.spoke t.0,
+  inr (inr (response, a)),
   rose_later first.counts.ends now.counts.ends after.counts.ends s.spoke.did.keeps.counts.ends t.1,
 )
 talks_settled first now after text p round response (Ok talk.Octets) s all a low high t =
@@ -248,22 +271,23 @@ talks_settled first now after text p round response (Err e) s all a low high t =
 
 -- a quiet read before the conversation
 pub talks_later : (u v w : LinkView) (text : List ℕ) (r : Result Talk NoMem) → LinkDid u v [] [] → Talks v text r w → Talks u text r w
-talks_later u v w text (Ok (talk.Answered n said)) d t = (t.0, did_on u v w [] [] text t.0 d t.1, t.2, t.3, t.4)
-talks_later u v w text (Ok talk.Fault) d t = (t.0, t.1, spoke_later u v w text t.0 t.1 d t.2, rose_later u.counts.faults v.counts.faults w.counts.faults d.keeps.counts.faults t.3)
-talks_later u v w text (Ok talk.End) d t = (t.0, t.1, spoke_later u v w text t.0 t.1 d t.2, rose_later u.counts.ends v.counts.ends w.counts.ends d.keeps.counts.ends t.3)
+talks_later u v w text (Ok (talk.Answered n said)) d t =
+    (t.0, did_on u v w [] [] text t.0 d t.1, t.2, quiet_later 3 u v w d.keeps.counts.read_quiets t.3, t.4, t.5)
+talks_later u v w text (Ok talk.Fault) d t =
+    (t.0, t.1, spoke_later u v w text t.0 t.1 d t.2, t.3, rose_later u.counts.faults v.counts.faults w.counts.faults d.keeps.counts.faults t.4)
+talks_later u v w text (Ok talk.End) d t =
+    (t.0, t.1, spoke_later u v w text t.0 t.1 d t.2, t.3, rose_later u.counts.ends v.counts.ends w.counts.ends d.keeps.counts.ends t.4)
 talks_later u v w text (Ok talk.Octets) d t = (t.0, t.1, spoke_later u v w text t.0 t.1 d t.2, t.3)
 talks_later u v w text (Ok talk.Quiet) d t = (
   t.0,
   t.1,
   spoke_later u v w text t.0 t.1 d t.2,
-  elim t.3 as (λ s. IsStuck u w text t.0 t.1) [
-    | inl q ↦ inl (q.0, q.1, rose_by_later 10000 u.counts.read_quiets v.counts.read_quiets w.counts.read_quiets d.keeps.counts.read_quiets q.2)
+  t.3,
+  elim t.4 as (λ s. IsStuck u w text t.0 t.1) [
+    | inl q ↦ inl (q.0, q.1, quiet_later 10000 u v w d.keeps.counts.read_quiets q.2)
     | inr q ↦ inr (rose_by_later 10000 u.counts.write_quiets v.counts.write_quiets w.counts.write_quiets d.keeps.counts.write_quiets q)
   ],
 )
-  where
-    rose_by_later : (k a b c : ℕ) → a ≤ b → RoseBy k b c → RoseBy k a c
-    rose_by_later k a b c le r = omega arith
 talks_later u v w text (Err e) d t = (t.0, t.1, spoke_later u v w text t.0 t.1 d t.2)
 
 pub turn_is : (v w : LinkView) (text : List ℕ) (old new : Progress) (r s : Result Turn NoMem) → r ≡ s → Turns v text old r w new → Turns v text old s w new

@@ -1,6 +1,7 @@
 -- What comes of a conversation over one link: the request's text goes out, and one answer comes back (RFC 9112, section 9).
 use Rattle.std.specs.Prelude.{◌≡◌, ◌⊎◌, ◌+◌, ◌-◌, ◌<◌, ◌≤◌, ◌^◌, ℕ, min, List, [], ◌∷◌, ◌++◌, length, take, drop, Result, Ok, Err}
 use Rattle.net_base.specs.declared.memory.NoMem.{NoMem}
+use Rattle.net_base.specs.declared.response.Response.{Response}
 use Rattle.edge_traits.specs.Counts.{Rose}
 use Rattle.edge_traits.specs.Links.{LinkView, LinkDid}
 use Rattle.pool_run.specs.FirstAnswer.{IsFirstAnswer, Stands}
@@ -18,23 +19,36 @@ pub record Spoke (before after : LinkView) (text put got : List ℕ) : Type 0 wh
   pub rest : List ℕ
   pub begins : text ≡ put ++ rest
 
+-- the octets that came may still become an answer, or are one
+abbrev pub IsOpen : List ℕ → Type 0
+IsOpen got = (got ≡ []) ⊎ (Stands got standing.More ⊎ ((response : Response) × IsFirstAnswer got response))
+
 -- the octets that came are no answer: they came before the request was ordered, or they aren't of the form or go on
 -- behind the answer
 abbrev pub IsNoAnswer : List ℕ → List ℕ → Type 0
 IsNoAnswer put got = ((put ≡ []) × (0 < length got)) ⊎ Stands got standing.Other
 
+-- a link answered so many more reads by Quiet, at least
+abbrev pub QuietReads : ℕ → LinkView → LinkView → Type 0
+QuietReads k before after = RoseBy k before.counts.read_quiets after.counts.read_quiets
+
 -- nothing moved for 10000 rounds: the text is out, no whole answer came and reads were quiet; or writes were
 abbrev pub IsStuck : LinkView → LinkView → List ℕ → List ℕ → List ℕ → Type 0
 IsStuck before after text put got =
-    ((put ≡ text) × Stands got standing.More × RoseBy 10000 before.counts.read_quiets after.counts.read_quiets)
+    ((put ≡ text) × Stands got standing.More × QuietReads 10000 before after)
     ⊎ RoseBy 10000 before.counts.write_quiets after.counts.write_quiets
 
--- each outcome shows itself by what went over the link and by the link's counts
+-- each outcome shows itself by what went over the link and by the link's counts: an answer also by the quiet reads of
+-- the three rounds behind it
 abbrev pub Talks : LinkView → List ℕ → Result Talk NoMem → LinkView → Type 0
 Talks before text (Ok (Answered round response)) after =
-    (got : List ℕ) × LinkDid before after text got × IsFirstAnswer got response × (2 ≤ round) × (round + 3 < 2 ^ 64)
-Talks before text (Ok Fault) after = (put : List ℕ) × (got : List ℕ) × Spoke before after text put got × Rose before.counts.faults after.counts.faults
-Talks before text (Ok End) after = (put : List ℕ) × (got : List ℕ) × Spoke before after text put got × Rose before.counts.ends after.counts.ends
+    (got : List ℕ) × LinkDid before after text got × IsFirstAnswer got response × QuietReads 3 before after
+    × (2 ≤ round) × (round + 3 < 2 ^ 64)
+Talks before text (Ok Fault) after =
+    (put : List ℕ) × (got : List ℕ) × Spoke before after text put got × IsOpen got × Rose before.counts.faults after.counts.faults
+Talks before text (Ok End) after =
+    (put : List ℕ) × (got : List ℕ) × Spoke before after text put got × IsOpen got × Rose before.counts.ends after.counts.ends
 Talks before text (Ok Octets) after = (put : List ℕ) × (got : List ℕ) × Spoke before after text put got × IsNoAnswer put got
-Talks before text (Ok Quiet) after = (put : List ℕ) × (got : List ℕ) × Spoke before after text put got × IsStuck before after text put got
+Talks before text (Ok Quiet) after =
+    (put : List ℕ) × (got : List ℕ) × Spoke before after text put got × IsOpen got × IsStuck before after text put got
 Talks before text (Err e) after = (put : List ℕ) × (got : List ℕ) × Spoke before after text put got

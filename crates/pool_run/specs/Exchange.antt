@@ -17,7 +17,7 @@ use Rattle.pool_run.specs.declared.report.Unbuilt.TheVariants as unbuilt
 use Rattle.pool_run.specs.declared.report.Report.{Report}
 use Rattle.pool_run.specs.declared.report.Report.TheVariants as report
 use Rattle.pool_run.specs.FirstAnswer.{IsFirstAnswer}
-use Rattle.pool_run.specs.Conversation.{Talks, Spoke, IsNoAnswer}
+use Rattle.pool_run.specs.Conversation.{Talks, Spoke, RoseBy, IsOpen, IsNoAnswer}
 use Rattle.pool_run.specs.JournalText.{exchange_text}
 use Rattle.pool_run.specs.Serial.{one_line, IsQuiet}
 
@@ -48,23 +48,29 @@ pub record AnsweredStaged (before after : DialerView) (request : Request) (targe
   pub dialed : DialedStaged before after target (Some identity) (one_line text received)
   pub proto : identity.proto ≡ H1
   pub answer : IsFirstAnswer received response
+  pub quiet : RoseBy 3 before.counts.read_quiets after.counts.read_quiets
   pub later : 2 ≤ round
   pub journal : told ≡ exchange_text request identity (length text) round response
+
+abbrev pub OpenStaged : DialerView → DialerView → Target → List ℕ → Identity → List ℕ → List ℕ → Type 0
+OpenStaged before after target text identity put got =
+    UpStaged before after target text identity put got × (identity.proto ≡ H1) × IsOpen got
 
 abbrev pub UnbuiltStaged : DialerView → DialerView → Target → List ℕ → Unbuilt → Type 0
 UnbuiltStaged before after target text unbuilt.Dial = DialedStaged before after target None [] × Rose before.counts.faults after.counts.faults
 UnbuiltStaged before after target text unbuilt.Identity =
     (identity : Identity) × UpStaged before after target text identity [] [] × (identity.proto ≡ H2)
 UnbuiltStaged before after target text unbuilt.Fault =
-    (identity : Identity) × (put : List ℕ) × (got : List ℕ) × UpStaged before after target text identity put got
+    (identity : Identity) × (put : List ℕ) × (got : List ℕ) × OpenStaged before after target text identity put got
     × Rose before.counts.faults after.counts.faults
 UnbuiltStaged before after target text unbuilt.End =
-    (identity : Identity) × (put : List ℕ) × (got : List ℕ) × UpStaged before after target text identity put got
+    (identity : Identity) × (put : List ℕ) × (got : List ℕ) × OpenStaged before after target text identity put got
     × Rose before.counts.ends after.counts.ends
 UnbuiltStaged before after target text unbuilt.Octets =
-    (identity : Identity) × (put : List ℕ) × (got : List ℕ) × UpStaged before after target text identity put got × IsNoAnswer put got
-UnbuiltStaged before after target text unbuilt.Quiet =
     (identity : Identity) × (put : List ℕ) × (got : List ℕ) × UpStaged before after target text identity put got
+    × (identity.proto ≡ H1) × IsNoAnswer put got
+UnbuiltStaged before after target text unbuilt.Quiet =
+    (identity : Identity) × (put : List ℕ) × (got : List ℕ) × OpenStaged before after target text identity put got
     × IsQuiet before after text put got
 
 abbrev pub RunsStaged : DialerView → Request → Target → List ℕ → Result Report NoMem → DialerView → Type 0

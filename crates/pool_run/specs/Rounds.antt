@@ -5,7 +5,7 @@ use Rattle.net_base.specs.declared.response.Response.{Response}
 use Rattle.edge_traits.specs.Counts.{Rose}
 use Rattle.edge_traits.specs.Links.{LinkView, LinkDid}
 use Rattle.pool_run.specs.FirstAnswer.{IsFirstAnswer, Stands}
-use Rattle.pool_run.specs.Conversation.{Spoke}
+use Rattle.pool_run.specs.Conversation.{Spoke, IsOpen, QuietReads}
 use Rattle.pool_run.specs.declared.first_answer.Standing.TheVariants as standing
 use Rattle.pool_run.specs.declared.conversation.Heard.{Heard}
 use Rattle.pool_run.specs.declared.conversation.Heard.TheVariants as heard
@@ -34,6 +34,14 @@ CountsQuiet before (Ok (heard.Got octets)) after = Unit {0}
 CountsQuiet before (Ok heard.End) after = Unit {0}
 CountsQuiet before (Ok heard.Fault) after = Unit {0}
 CountsQuiet before (Err e) after = Unit {0}
+
+-- a quiet answer of the rounds behind a whole answer shows itself by their quiet reads
+abbrev pub CountsRounds : LinkView → Result Heard NoMem → LinkView → Type 0
+CountsRounds before (Ok heard.Quiet) after = QuietReads 3 before after
+CountsRounds before (Ok (heard.Got octets)) after = Unit {0}
+CountsRounds before (Ok heard.End) after = Unit {0}
+CountsRounds before (Ok heard.Fault) after = Unit {0}
+CountsRounds before (Err e) after = Unit {0}
 
 -- what writes took of the output: where they took none, there was none, or a write was quiet
 abbrev pub Writes : LinkView → List ℕ → Result Wrote NoMem → LinkView → Type 0
@@ -81,22 +89,24 @@ pub record Advances (before after : LinkView) (text : List ℕ) (old new : Progr
 abbrev pub Turns : LinkView → List ℕ → Progress → Result Turn NoMem → LinkView → Progress → Type 0
 Turns before text old (Ok turn.Going) after new = Advances before after text old new
 Turns before text old (Ok turn.Fault) after new =
-    (put : List ℕ) × (got : List ℕ) × Spoke before after (drop old.sent text) put got × Rose before.counts.faults after.counts.faults
+    (put : List ℕ) × Spoke before after (drop old.sent text) put [] × Rose before.counts.faults after.counts.faults
 Turns before text old (Ok turn.End) after new =
-    (put : List ℕ) × (got : List ℕ) × Spoke before after (drop old.sent text) put got × Rose before.counts.ends after.counts.ends
+    (put : List ℕ) × Spoke before after (drop old.sent text) put [] × Rose before.counts.ends after.counts.ends
 Turns before text old (Err e) after new = (put : List ℕ) × (got : List ℕ) × Spoke before after (drop old.sent text) put got
 
 -- what a round's progress means
 abbrev pub Judges : List ℕ → Progress → Result Next NoMem → Type 0
-Judges text progress (Ok next.Go) = progress.idle < 10000
+Judges text progress (Ok next.Go) = (progress.idle < 10000) × IsOpen progress.received
 Judges text progress (Ok (next.Answered response)) = (progress.sent ≡ length text) × IsFirstAnswer progress.received response
 Judges text progress (Ok next.Octets) = Stands progress.received standing.Other
-Judges text progress (Ok next.Quiet) = (10000 ≤ progress.idle) × (progress.sent ≡ length text → Stands progress.received standing.More)
+Judges text progress (Ok next.Quiet) =
+    (10000 ≤ progress.idle) × IsOpen progress.received × (progress.sent ≡ length text → Stands progress.received standing.More)
 Judges text progress (Err e) = Unit {0}
 
 -- what the rounds behind a whole answer make of it
 abbrev pub Settles : LinkView → ℕ → Response → Result Talk NoMem → LinkView → Type 0
-Settles before round response (Ok (talk.Answered n said)) after = LinkDid before after [] [] × (n ≡ round) × (said ≡ response)
+Settles before round response (Ok (talk.Answered n said)) after =
+    LinkDid before after [] [] × QuietReads 3 before after × (n ≡ round) × (said ≡ response)
 Settles before round response (Ok talk.Fault) after = LinkDid before after [] [] × Rose before.counts.faults after.counts.faults
 Settles before round response (Ok talk.End) after = LinkDid before after [] [] × Rose before.counts.ends after.counts.ends
 Settles before round response (Ok talk.Octets) after = (more : List ℕ) × LinkDid before after [] more × (0 < length more)

@@ -22,7 +22,7 @@ use Rattle.pool_run.specs.declared.report.Report.TheVariants as report
 use Rattle.scenario_text.specs.SmallForm.{IsForm, IsNoForm, IsNoJson}
 use Rattle.pool_run.specs.FirstAnswer.{IsFirstAnswer, Stands}
 use Rattle.pool_run.specs.declared.first_answer.Standing.TheVariants as standing
-use Rattle.pool_run.specs.Conversation.{RoseBy, IsNoAnswer}
+use Rattle.pool_run.specs.Conversation.{RoseBy, IsOpen, IsNoAnswer}
 use Rattle.pool_run.specs.JournalText.{exchange_text}
 use Rattle.pool_run.specs.Streams.{IsInput, HasTooMany}
 
@@ -64,7 +64,7 @@ abbrev pub one_line : List ℕ → List ℕ → List LogLine
 one_line written received = record { conn = 1; written = written; received = received } ∷ []
 
 -- the exchange went over the connection: the request's text was written, one answer of the first form received, in a
--- round from 2 on; the text is its journal and summary
+-- round from 2 on, and nothing came in the three rounds behind it; the text is its journal and summary
 pub record AnsweredOnce (before after : DialerView) (form : SmallForm) (text : List ℕ) : Type 0 where
   pub identity : Identity
   pub received : List ℕ
@@ -73,6 +73,7 @@ pub record AnsweredOnce (before after : DialerView) (form : SmallForm) (text : L
   pub dialed : DialedOnce before after form (Some identity) (one_line (request_text form.request) received)
   pub proto : identity.proto ≡ H1
   pub answer : IsFirstAnswer received response
+  pub quiet : RoseBy 3 before.counts.read_quiets after.counts.read_quiets
   pub later : 2 ≤ round
   pub told : text ≡ exchange_text form.request identity (length (request_text form.request)) round response
 
@@ -82,11 +83,20 @@ pub record CameUp (before after : DialerView) (form : SmallForm) (identity : Ide
   pub rest : List ℕ
   pub begins : request_text form.request ≡ put ++ rest
 
+-- a dialer's links answered so many more reads by Quiet, at least
+abbrev pub QuietDials : ℕ → DialerView → DialerView → Type 0
+QuietDials k before after = RoseBy k before.counts.read_quiets after.counts.read_quiets
+
 -- the request's text is out, no whole answer came and reads were quiet 10000 times; or writes were
 abbrev pub IsQuiet : DialerView → DialerView → List ℕ → List ℕ → List ℕ → Type 0
 IsQuiet before after text put got =
-    ((put ≡ text) × Stands got standing.More × RoseBy 10000 before.counts.read_quiets after.counts.read_quiets)
+    ((put ≡ text) × Stands got standing.More × QuietDials 10000 before after)
     ⊎ RoseBy 10000 before.counts.write_quiets after.counts.write_quiets
+
+-- the connection came up to a peer that speaks HTTP/1.1; a front of the request's text was written, and what came may
+-- still have become an answer
+abbrev pub WasOpen : DialerView → DialerView → SmallForm → Identity → List ℕ → List ℕ → Type 0
+WasOpen before after form identity put got = CameUp before after form identity put got × (identity.proto ≡ H1) × IsOpen got
 
 -- why the course of a run can't be told yet, each word by what shows it
 abbrev pub IsUnbuilt : DialerView → DialerView → SmallForm → Unbuilt → Type 0
@@ -94,15 +104,16 @@ IsUnbuilt before after form unbuilt.Dial = DialedOnce before after form None [] 
 IsUnbuilt before after form unbuilt.Identity =
     (identity : Identity) × CameUp before after form identity [] [] × (identity.proto ≡ H2)
 IsUnbuilt before after form unbuilt.Fault =
-    (identity : Identity) × (put : List ℕ) × (got : List ℕ) × CameUp before after form identity put got
+    (identity : Identity) × (put : List ℕ) × (got : List ℕ) × WasOpen before after form identity put got
     × Rose before.counts.faults after.counts.faults
 IsUnbuilt before after form unbuilt.End =
-    (identity : Identity) × (put : List ℕ) × (got : List ℕ) × CameUp before after form identity put got
+    (identity : Identity) × (put : List ℕ) × (got : List ℕ) × WasOpen before after form identity put got
     × Rose before.counts.ends after.counts.ends
 IsUnbuilt before after form unbuilt.Octets =
-    (identity : Identity) × (put : List ℕ) × (got : List ℕ) × CameUp before after form identity put got × IsNoAnswer put got
-IsUnbuilt before after form unbuilt.Quiet =
     (identity : Identity) × (put : List ℕ) × (got : List ℕ) × CameUp before after form identity put got
+    × (identity.proto ≡ H1) × IsNoAnswer put got
+IsUnbuilt before after form unbuilt.Quiet =
+    (identity : Identity) × (put : List ℕ) × (got : List ℕ) × WasOpen before after form identity put got
     × IsQuiet before after (request_text form.request) put got
 
 abbrev pub unbuilt_line : Unbuilt → List ℕ

@@ -35,9 +35,10 @@ ReadsInput before (Ok TooMany) after = HasTooMany before.left
 ReadsInput before (Ok Failed) after = Rose before.faults after.faults
 ReadsInput before (Err e) after = Unit {0}
 
--- a front of the text was written
+-- a front of the text was written, but not all of it
 abbrev pub WritesFront : SinkView → List ℕ → SinkView → Type 0
-WritesFront before text after = (put : List ℕ) × (rest : List ℕ) × (text ≡ put ++ rest) × Grew before.written put after.written
+WritesFront before text after =
+    (put : List ℕ) × (rest : List ℕ) × (text ≡ put ++ rest) × (0 < length rest) × Grew before.written put after.written
 
 -- a text is written whole, or a front of it
 abbrev pub WritesText : SinkView → List ℕ → Output → SinkView → Type 0

@@ -1,7 +1,7 @@
 // A conversation over one link, by rounds.
 ghost use Rattle.std.specs.Prelude.{◌≡◌, ◌+◌, ◌<◌, ◌≤◌, length};
 ghost use Rattle.pool_run.specs.Conversation.{Talks};
-ghost use Rattle.pool_run.specs.Rounds.{Hears, CountsQuiet, Writes, TakesIn, Turns, Judges, Settles};
+ghost use Rattle.pool_run.specs.Rounds.{Hears, CountsQuiet, CountsRounds, Writes, TakesIn, Turns, Judges, Settles};
 
 use crate::first_answer::{Standing, standing_of};
 use edge_traits::{Link, LinkRead, LinkWrite};
@@ -265,7 +265,8 @@ fn settle<L: Link>(
 
 /// One read in each of the rounds behind an answer, until one hears something.
 fn listen_on<L: Link>(alloc: Global, link: &mut L) -> Result<Heard, NoMem>
-    ensures { Hears (L.seen link.old) result (L.seen link.new) }
+    ensures heard { Hears (L.seen link.old) result (L.seen link.new) }
+    ensures counted { CountsRounds (L.seen link.old) result (L.seen link.new) }
 {
     for _ in 0..ROUNDS_BEHIND {
         match listen(alloc, link)? {

@@ -37,6 +37,11 @@ const NONE_FAIL: Fails = Fails {
     writes: &[],
 };
 
+const FIRST_CALLS_FAIL: Fails = Fails {
+    reads: &[1],
+    writes: &[1],
+};
+
 fn words_of(alloc: Global, words: &[&str]) -> Result<Vec<String>, NoMem> {
     let mut all = Vec::new(alloc);
     for word in words {
@@ -171,20 +176,36 @@ fn an_answer_behind_six_quiet_reads_is_told_in_round_seven(rt: HostRuntime) -> R
 #[test]
 fn words_that_are_no_command_read_and_write_nothing(rt: HostRuntime) -> Result<(), Fail> {
     let alloc = rt.alloc();
-    let fails = Fails {
-        reads: &[1],
-        writes: &[1],
-    };
-    for words in [
-        ["serial", "extra"].as_slice(),
-        ["load", "0"].as_slice(),
-        ["load", "05"].as_slice(),
-        [].as_slice(),
-    ] {
-        let outcome = call(alloc, words, EXAMPLE, fails, InnerDialer::new())?;
-        assert_eq!(rt; outcome.status, 2);
-        assert_eq!(rt; outcome.text.len(), 0);
-    }
+    let extra = call(
+        alloc,
+        &["serial", "extra"],
+        EXAMPLE,
+        FIRST_CALLS_FAIL,
+        InnerDialer::new(),
+    )?;
+    assert_eq!(rt; extra.status, 2);
+    assert_eq!(rt; extra.text.len(), 0);
+    let load = call(
+        alloc,
+        &["load", "0"],
+        EXAMPLE,
+        FIRST_CALLS_FAIL,
+        InnerDialer::new(),
+    )?;
+    assert_eq!(rt; load.status, 2);
+    assert_eq!(rt; load.text.len(), 0);
+    let zero = call(
+        alloc,
+        &["load", "05"],
+        EXAMPLE,
+        FIRST_CALLS_FAIL,
+        InnerDialer::new(),
+    )?;
+    assert_eq!(rt; zero.status, 2);
+    assert_eq!(rt; zero.text.len(), 0);
+    let none = call(alloc, &[], EXAMPLE, FIRST_CALLS_FAIL, InnerDialer::new())?;
+    assert_eq!(rt; none.status, 2);
+    assert_eq!(rt; none.text.len(), 0);
     Ok(())
 }
 

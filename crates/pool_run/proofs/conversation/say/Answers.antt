@@ -1,4 +1,4 @@
-use Rattle.std.proofs.Common.{refl, ap, ◌∙◌, arith, Ok, Err}
+use Rattle.std.proofs.Common.{inl, refl, ap, ◌∙◌, arith, Ok, Err}
 use Rattle.pool_run.specs.declared.conversation.Turn.TheVariants as turn
 use Rattle.pool_run.specs.declared.conversation.Next.TheVariants as next
 use Rattle.pool_run.proofs.Talking.{turn_is, next_is, speaks_first, speaks_within, speaks_going, talks_err, talks_none, talks_fault, talks_end, talks_octets, talks_quiet, talks_settled}
@@ -30,26 +30,26 @@ pub returns-in-Quiet : goal.returns-in-Quiet
 returns-in-Quiet g c =
     let s = speaks_going _ _ _ _ _ _ _ c.loop-round.invariant.0 c.take_turn.ensures (c.in_ok-take_turn.was ∙ ap Ok c.in-Going.is) in
     let j = next_is _ _ _ (Ok next.Quiet) (c.in_ok-judge-in-Going.was ∙ ap Ok c.in-Quiet.is) c.judge.ensures in
-    talks_quiet _ _ _ _ s j.0 j.1
+    talks_quiet _ _ _ _ s j.0 j.1 j.2
 
 pub returns-in-Fault : goal.returns-in-Fault
 returns-in-Fault g c =
     let t = turn_is _ _ _ _ _ _ (Ok turn.Fault) (c.in_ok-take_turn.was ∙ ap Ok c.in-Fault.is) c.take_turn.ensures in
-    talks_fault _ _ _ _ _ c.take_turn.new.progress c.loop-round.invariant.0 t
+    talks_fault _ _ _ _ _ c.take_turn.new.progress c.loop-round.invariant.0 c.loop-round.invariant.2 t
 
 pub returns-in-End : goal.returns-in-End
 returns-in-End g c =
     let t = turn_is _ _ _ _ _ _ (Ok turn.End) (c.in_ok-take_turn.was ∙ ap Ok c.in-End.is) c.take_turn.ensures in
-    talks_end _ _ _ _ _ c.take_turn.new.progress c.loop-round.invariant.0 t
+    talks_end _ _ _ _ _ c.take_turn.new.progress c.loop-round.invariant.0 c.loop-round.invariant.2 t
 
 pub loop-round-init : goal.loop-round-init
-loop-round-init g c = (speaks_first _ _ _ refl c.new.ensures refl, omega arith)
+loop-round-init g c = (speaks_first _ _ _ refl c.new.ensures refl, omega arith, inl c.new.ensures)
 
 pub loop-round-preserved : goal.loop-round-preserved
 loop-round-preserved g c =
     let s = speaks_going _ _ _ _ _ _ _ c.loop-round.invariant.0 c.take_turn.ensures (c.in_ok-take_turn.was ∙ ap Ok c.in-Going.is) in
     let j = next_is _ _ _ (Ok next.Go) (c.in_ok-judge-in-Going.was ∙ ap Ok c.in-Go.is) c.judge.ensures in
-    (s, j)
+    (s, j.0, j.1)
 
 pub returns : goal.returns
 returns g c = let s = c.loop-round.invariant.0 in (s.put, c.loop-round.progress.received, s.spoke)

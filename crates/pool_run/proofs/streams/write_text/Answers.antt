@@ -2,7 +2,7 @@ use Rattle.pool_run.proofs.StreamSteps.{piece_fits, put_more, front_refused, fro
 use Rattle.pool_run.proofs.streams.write_text.Goals as goal
 
 pub returns-in-Took-eq0 : goal.returns-in-Took-eq0
-returns-in-Took-eq0 g c = front_refused _ _ _ c.args.text.now c.loop-at.at _ c.loop-at.invariant.1 c.in-Took-eq0.ensures c.in-Took-eq0.field-0-test
+returns-in-Took-eq0 g c = front_refused _ _ _ c.args.text.now c.loop-at.at _ c.loop-at-test.true c.loop-at.invariant.1 c.in-Took-eq0.ensures c.in-Took-eq0.field-0-test
 
 pub loop-at-preserved : goal.loop-at-preserved
 loop-at-preserved g c =
@@ -10,7 +10,7 @@ loop-at-preserved g c =
     (piece_fits _ _ _ c.loop-at.invariant.0 took.fits, put_more _ _ _ c.args.text.now c.loop-at.at _ c.loop-at.invariant.1 took)
 
 pub returns-in-Failed : goal.returns-in-Failed
-returns-in-Failed g c = front_failed _ _ _ c.args.text.now c.loop-at.at c.loop-at.invariant.1 c.in-Failed.ensures
+returns-in-Failed g c = front_failed _ _ _ c.args.text.now c.loop-at.at c.loop-at-test.true c.loop-at.invariant.1 c.in-Failed.ensures
 
 pub returns-in-NoMem : goal.returns-in-NoMem
-returns-in-NoMem g c = front_kept _ _ _ c.args.text.now c.loop-at.at c.loop-at.invariant.1 c.in-NoMem.ensures
+returns-in-NoMem g c = front_kept _ _ _ c.args.text.now c.loop-at.at c.loop-at-test.true c.loop-at.invariant.1 c.in-NoMem.ensures
