@@ -22,6 +22,6 @@ abbrev pub default_port_of : Scheme → ℕ
 default_port_of Http = 80
 default_port_of Https = 443
 
--- RFC 9110, section 7.2: the host, and `:` and the port unless it is the scheme's default
+-- RFC 9110, sections 4.2.3 and 7.2: the host, and `:` and the port unless it is the scheme's default
 abbrev pub authority_text : Origin → List ℕ
 authority_text o = if o.port == default_port_of o.scheme then o.host else o.host ++ 58 ∷ decimal o.port

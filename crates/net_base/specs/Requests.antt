@@ -15,11 +15,12 @@ use Rattle.net_base.specs.Origins.{scheme_of, default_port_of}
 abbrev pub Gives : {T : Type 0} → Result T BuildFault → Result T BuildFault → Type 0
 Gives result expected = MatchResult result (λ x. expected ≡ Ok x) (λ e. (expected ≡ Err e) ⊎ (e ≡ NoMem))
 
--- the path, and `?` and the query where there is one, an empty query too
+-- `?` and the query where there is one, an empty one too, and else nothing
 abbrev pub query_part : Option (List ℕ) → List ℕ
 query_part None = []
 query_part (Some q) = 63 ∷ q
 
+-- RFC 9112, section 3.2.1, origin-form: the path, and `?` and the query where there is one
 abbrev pub target_text : Parts → List ℕ
 target_text u = u.path ++ query_part u.query
 

@@ -2,7 +2,7 @@
 //! requests and responses, and the book of scripted peers. Each can be copied whole, and contracts see lists as lists.
 //!
 //! `Request::build` reads a URL by the URL Standard into a request of RFC 9110, and `authority` writes the host and
-//! the port of an origin as RFC 9110, section 7.2, has it in a `Host` field.
+//! the port of an origin as RFC 9110, sections 4.2.3 and 7.2, have it in a `Host` field.
 #![tactic(auto)]
 
 mod field;

@@ -1,7 +1,7 @@
 // Want of memory.
 use std::alloc::AllocError;
 
-/// There was not enough memory. What the call was given to change is as it was before.
+/// There was not enough memory.
 #[derive(Clone, Copy, Debug, PartialEq, Eq)]
 pub struct NoMem;
 

@@ -56,8 +56,8 @@ pub(crate) fn default_port(scheme: Scheme) -> u16
     }
 }
 
-/// The authority of an origin (RFC 9110, section 7.2): its host, and `:` and its port unless that is the default of
-/// its scheme.
+/// The authority of an origin (RFC 9110, sections 4.2.3 and 7.2): its host, and `:` and its port unless that is the
+/// default of its scheme.
 pub fn authority(alloc: Global, o: &Origin) -> Result<Octets, NoMem>
     ensures { IfOk result (λ text. text ≡ authority_text o.now) }
 {

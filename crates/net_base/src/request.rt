@@ -45,7 +45,7 @@ impl PlainValue for Request {
 /// Why no request was built.
 #[derive(Clone, Copy, Debug, PartialEq, Eq)]
 pub enum BuildFault {
-    /// There was no memory.
+    /// There was no memory, or the URL would be longer than 4 GiB.
     NoMem,
     /// The text is no URL.
     BadUrl,
