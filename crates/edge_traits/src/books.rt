@@ -33,7 +33,8 @@ pub struct Books {
 
 impl Books {
     ghost use Rattle.std.specs.Prelude.{length, IsSome, OnOk, OnErr};
-    ghost use Rattle.edge_traits.specs.Counts.{count_sum, counts_sum, no_counts};
+    ghost use Rattle.edge_traits.specs.Counts.{no_counts};
+    ghost use Rattle.edge_traits.specs.Counted.{one_fault};
     ghost use Rattle.edge_traits.specs.Dialers.{IsOut, DialedUp, DialFailed, Retires};
     ghost use Rattle.edge_traits.specs.BookLinks.{counts_of, upper_half, out_link_view};
     ghost use Rattle.edge_traits.specs.Books.{books_view, unused_view, peers_of, HasRoom};
@@ -135,7 +136,7 @@ impl Books {
     pub fn failed(&mut self, conn: ConnNo, target: Target)
         requires { HasRoom self.old }
         ensures law { DialFailed (books_view self.old) (books_view self.new) conn.0 target }
-        ensures counts { (books_view self.new).counts ≡ record (books_view self.old).counts { faults = count_sum (books_view self.old).counts.faults 1 } }
+        ensures counts { (books_view self.new).counts ≡ one_fault (books_view self.old).counts }
         ensures left { (books_view self.new).left ≡ (books_view self.old).left }
         ensures out { (books_view self.new).out ≡ (books_view self.old).out }
     {

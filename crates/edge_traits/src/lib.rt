@@ -40,6 +40,7 @@ pub use link_step::{CallNos, LinkStep, LinkSteps};
 pub use mem_dialer::MemDialer;
 pub use mem_sink::MemSink;
 pub use mem_source::MemSource;
+pub use octet_copy::put_front;
 pub use script_link::ScriptLink;
 pub use script_part::{ScriptLinks, ScriptPart};
 pub use sink::{Sink, SinkWrite};

@@ -1,5 +1,5 @@
 // The lists that a dialer in memory keeps, with room for the lines to come.
-ghost use Rattle.std.specs.Prelude.{ℕ, ◌≡◌, ◌≤◌, ◌<◌, ◌+◌, ◌∷◌, ◌++◌, [], length, map, slice_get, Some, OnOk, vec_capacity};
+ghost use Rattle.std.specs.Prelude.{ℕ, ◌≡◌, ◌≤◌, ◌+◌, ◌∷◌, ◌++◌, [], length, map, slice_get, Some, OnOk, vec_capacity};
 ghost use Rattle.edge_traits.specs.BookLinks.{place_of, allowances};
 ghost use Rattle.edge_traits.specs.Dialers.{TakenOut};
 
