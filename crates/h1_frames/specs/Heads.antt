@@ -1,4 +1,7 @@
--- What a unit says as the head of a response (RFC 9112, sections 4 and 5), and what a reader of heads answers.
+-- What a unit says as the head of a response (RFC 9112, sections 4 and 5), and what a reader of heads answers. The
+-- grammar is httparse's, which is more lenient than RFC 9112: empty lines may stand first (section 2.2 has them before a
+-- request line alone), and the space behind the status may be missing where there is no reason (section 4). A folded
+-- line (section 5.2) is refused.
 use Rattle.std.specs.Prelude.{◌≡◌, ◌≤◌, ◌⊎◌, ℕ, List, [], length, take, map}
 use Rattle.httparse.specs.Grammar as grammar
 use Rattle.httparse.specs.Grammar.{ResponseHead, ReadsResponse, status_code}

@@ -1,4 +1,5 @@
--- What is written reads back as what was given, by the grammar of httparse (RFC 9112, sections 2 to 5).
+-- The head that is written reads back as what was given, by the grammar of httparse (RFC 9112, sections 2 to 5), and
+-- behind it stands the body. How a reader learns where the body ends (section 6) isn't said here.
 use Rattle.std.specs.Prelude.{◌≡◌, ◌<◌, ℕ, List, [], ◌∷◌, ◌++◌, length, map, All, IsTrue, IsUtf8}
 use Rattle.httparse.specs.Grammar.{RequestHead, ReadsRequest, IsToken, AllPass, is_uri_byte, is_value_byte, is_ows}
 use Rattle.httparse.specs.Spans.{name_and_value}
@@ -17,7 +18,8 @@ pub record IsSendableField (f : Field) : Type 0 where
   pub name : IsToken f.name
   pub value : IsSendableValue f.value
 
--- each part is what its place in the text allows
+-- each part is what its place in the text allows: of a path, by the grammar of httparse, any UTF-8 without space and
+-- control octets, which is more than section 3.2 does
 pub record IsSendable (r : Request) : Type 0 where
   pub method : IsToken r.method
   pub path_some : 0 < length r.path
@@ -26,7 +28,7 @@ pub record IsSendable (r : Request) : Type 0 where
   pub host : IsSendableValue r.origin.host
   pub fields : All IsSendableField r.fields
 
--- a head says what the request says: its method, its path, version 1.1, and its fields with the host and the length
+-- a head says what the request says: its method, its path, version 1.1, and the fields that are sent
 pub record SaysRequest (h : RequestHead) (r : Request) : Type 0 where
   pub method : h.method ≡ r.method
   pub target : h.target ≡ r.path

@@ -22,7 +22,8 @@ field_lines fields = flat_map (λ f. field_line f.name f.value) fields
 abbrev pub host_field : Request → Field
 host_field r = record { name = codes "host"; value = authority_text r.origin }
 
--- RFC 9110, section 8.6: the methods that expect content, for which a length of 0 is written too
+-- the methods that define a meaning for content: POST and PUT (RFC 9110, sections 9.3.3 and 9.3.4) and PATCH (RFC 5789);
+-- for them a length of 0 is written too (RFC 9110, section 8.6)
 abbrev pub expects_content : List ℕ → Bool
 expects_content method = bytes_eq method (codes "POST") || bytes_eq method (codes "PUT") || bytes_eq method (codes "PATCH")
 

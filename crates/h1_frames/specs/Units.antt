@@ -1,4 +1,6 @@
--- The unit of a head: the lines that a reader waits for before it judges them (RFC 9112, sections 2.1 and 2.2).
+-- The unit of a head: the lines that a reader waits for before it judges them (RFC 9112, sections 2.1 and 2.2). A line
+-- may end in LF alone, as section 2.2 allows. More lenient than that section, which has a server pass over empty lines
+-- before a request line, empty lines may stand before a status line too.
 use Rattle.std.specs.Prelude.{◌≡◌, ◌⊎◌, ◌<◌, ◌≤◌, ℕ, List, [], ◌∷◌, ◌++◌, length, take, All}
 use Rattle.std.specs.List.{flat_map}
 

@@ -111,8 +111,8 @@ fn head_spans(unit: &[u8], room: &mut [HeaderSpan; 256]) -> Option<HeadSpans>
     }
 }
 
-/// The fields that the spans cover.
-fn fields_from(alloc: Global, unit: &[u8], spans: &[HeaderSpan]) -> Result<Fields, NoMem>
+/// The fields that the spans cover, in order, their names in lower case.
+pub fn fields_from(alloc: Global, unit: &[u8], spans: &[HeaderSpan]) -> Result<Fields, NoMem>
     requires { All (IsHeaderWithin (length unit.now)) spans.now }
     ensures { IfOk result (λ fields. fields ≡ map (λ s. lowered (header_bytes unit.now s)) spans.now) }
 {

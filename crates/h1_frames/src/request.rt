@@ -53,7 +53,7 @@ fn add_fields(alloc: Global, text: &mut Octets, fields: &Fields) -> Result<(), N
     Ok(())
 }
 
-/// Whether the method expects content (RFC 9110, section 8.6).
+/// Whether the method expects content: POST and PUT (RFC 9110, sections 9.3.3 and 9.3.4) and PATCH (RFC 5789).
 fn expects_content(method: &[u8]) -> bool
     ensures { result ≡ spec.expects_content method.now }
 {
