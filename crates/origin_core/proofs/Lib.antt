@@ -1,6 +1,5 @@
 pub mod Numbers
 pub mod BodySizes
-pub mod AskedLemmas
 pub mod Wholes
 pub mod Origins
 pub mod InnerLinks

@@ -1,5 +1,5 @@
 -- The dialer of scripted origins in memory.
-use Rattle.std.specs.Prelude.{◌≡◌, ◌≤◌, ◌==◌, ◌&&◌, ℕ, Bool, true, false, not, List, [], Option, None, Some, find, bytes_eq, if◌then◌else◌}
+use Rattle.std.specs.Prelude.{◌≡◌, ◌≤◌, ◌+◌, ◌==◌, ◌&&◌, ℕ, Bool, true, false, not, List, [], Option, None, Some, find, bytes_eq, if◌then◌else◌}
 use Rattle.std.specs.List.{list_any}
 use Rattle.net_base.specs.declared.numbers.ConnNo.{ConnNo}
 use Rattle.net_base.specs.declared.target.Target.{Target}
@@ -10,12 +10,16 @@ use Rattle.net_base.specs.declared.peer.ActKind.{ActKind}
 use Rattle.net_base.specs.declared.peer.ActKind.TheVariants as act
 use Rattle.edge_traits.specs.declared.dialer.Dialed.{Dialed}
 use Rattle.edge_traits.specs.declared.dialer.Dialed.TheVariants.{Up, Failed, NoMem}
+use Rattle.edge_traits.specs.Counts.{no_counts}
+use Rattle.edge_traits.specs.Counted.{one_fault}
+use Rattle.edge_traits.specs.Links.{LinkView}
+use Rattle.edge_traits.specs.BookLinks.{upper_half}
 use Rattle.edge_traits.specs.Dialers.{DialerView}
 use Rattle.edge_traits.specs.Books.{books_view, books_within, books_none_out}
 use Rattle.origin_core.specs.declared.inner_link.InnerLink.{InnerLink}
 use Rattle.origin_core.specs.declared.inner_dialer.InnerDialer.{InnerDialer}
 use Rattle.origin_core.specs.declared.inner_dialer.PeerCopies.{PeerCopies}
-use Rattle.origin_core.specs.InnerLinks.{peer_of}
+use Rattle.origin_core.specs.InnerLinks.{link_view, peer_of}
 
 abbrev pub dialer_view : InnerDialer → DialerView
 dialer_view dialer = books_view dialer.books
@@ -76,3 +80,21 @@ DialsPeer peers conn target (Up link identity) =
     (reached peers conn target ≡ Some (peer_of link)) × (identity ≡ identity_of (peer_of link))
 DialsPeer peers conn target Failed = reached peers conn target ≡ None
 DialsPeer peers conn target NoMem = Unit {0}
+
+-- a dial that comes up counts nothing, and gives its link the half of what is left, rounded up
+pub record ComesUp (before after : DialerView) (link : LinkView) : Type 0 where
+  pub counts : after.counts ≡ before.counts
+  pub link_counts : link.counts ≡ no_counts
+  pub allowance : link.allowance ≡ upper_half before.left
+  pub left : after.left + link.allowance ≡ before.left
+
+-- a dial that fails counts one fault, and takes nothing of what is left
+pub record FailsOnce (before after : DialerView) : Type 0 where
+  pub counts : after.counts ≡ one_fault before.counts
+  pub left : after.left ≡ before.left
+
+-- what a dial counts, and what it takes of what is left; without memory nothing has changed
+abbrev pub DialsExactly : DialerView → Dialed InnerLink → DialerView → Type 0
+DialsExactly before (Up link identity) after = ComesUp before after (link_view link)
+DialsExactly before Failed after = FailsOnce before after
+DialsExactly before NoMem after = after ≡ before

@@ -5,6 +5,8 @@ use Rattle.std.proofs.Math.Nat.{le_of_lt}
 use Rattle.net_base.specs.declared.peer.Peer.{Peer}
 use Rattle.edge_traits.specs.declared.link.LinkRead.{LinkRead}
 use Rattle.edge_traits.specs.declared.link.LinkRead.TheVariants as reading
+use Rattle.edge_traits.specs.Counts.{Counts}
+use Rattle.edge_traits.specs.Counted.{one_read_quiet, one_end}
 use Rattle.edge_traits.specs.Links.{LinkView, IsWithinAllowance}
 use Rattle.edge_traits.specs.BookLinks.{counts_of, out_link_view}
 use Rattle.origin_core.specs.ScriptedOrigin.{Puts, IsFrontOf}
@@ -40,3 +42,11 @@ ReadsPut before reading.End after =
     Puts (peer_of before) (written_to before) (received_from before) true ⊎ ((link_view before).gave ≡ (link_view before).allowance)
 ReadsPut before reading.Failed after = ⊥
 ReadsPut before reading.NoMem after = Unit {0}
+
+-- what a read counts: a Quiet and an End once, and nothing else
+abbrev pub CountsRead : Counts → LinkRead → Counts → Type 0
+CountsRead before (reading.Got n) after = after ≡ before
+CountsRead before reading.Quiet after = after ≡ one_read_quiet before
+CountsRead before reading.End after = after ≡ one_end before
+CountsRead before reading.Failed after = ⊥
+CountsRead before reading.NoMem after = after ≡ before

@@ -9,7 +9,7 @@ use Rattle.net_base.specs.declared.peer.AnswerBody.{AnswerBody}
 use Rattle.net_base.specs.declared.peer.AnswerBody.TheVariants.{Text, Size}
 use Rattle.origin_core.specs.declared.scripted_request.Asked.{Asked}
 
--- the authority of an answer fits: it has none, or the request's Host field is it
+-- the authority of an answer fits: it has none, or a Host field of the request is it
 abbrev pub authority_fits : Asked → Option (List ℕ) → Bool
 authority_fits asked None = true
 authority_fits asked (Some authority) = list_any (λ f. bytes_eq f.name (codes "host") && bytes_eq f.value authority) asked.fields
@@ -38,10 +38,12 @@ status_line status = codes "HTTP/1.1 " ++ decimal status ++ 32 ∷ crlf
 abbrev pub field_line : Field → List ℕ
 field_line f = f.name ++ codes ": " ++ f.value ++ crlf
 
--- RFC 9110, section 8.6: no content-length with a status that has no content
+-- RFC 9110, sections 15.3.5 and 15.4.5: no content with status 204 and with 304. Scripts answer with statuses from 200 to
+-- 599, so the informational ones, which have none either, don't come.
 abbrev pub has_content : ℕ → Bool
 has_content status = if status == 204 then false else (if status == 304 then false else true)
 
+-- RFC 9110, section 8.6: the content-length, which is not sent with a status that has no content
 abbrev pub length_line : ℕ → ℕ → List ℕ
 length_line status size = if has_content status then codes "content-length: " ++ decimal size ++ crlf else []
 

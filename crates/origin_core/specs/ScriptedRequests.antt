@@ -1,4 +1,4 @@
--- What a scripted HTTP/1.1 origin reads of a request (RFC 9112, sections 2, 3 and 6).
+-- What a scripted HTTP/1.1 origin reads of a request (RFC 9112, sections 2, 3 and 6). It looks at no transfer-encoding.
 use Rattle.std.specs.Prelude.{◌≡◌, ◌⊎◌, ◌<◌, ◌≤◌, ◌+◌, ℕ, List, [], ◌∷◌, ◌++◌, length, take, map, codes, bytes_eq, if◌then◌else◌}
 use Rattle.std.specs.Str.Parse.{IsNumeral, digits_value}
 use Rattle.httparse.specs.Grammar.{RequestHead, ReadsRequest}
@@ -30,7 +30,8 @@ abbrev pub values_of : List ℕ → List Field → List (List ℕ)
 values_of name [] = []
 values_of name (field ∷ fields) = if bytes_eq field.name name then field.value ∷ values_of name fields else values_of name fields
 
--- RFC 9110, section 8.6: one number of digits, at most 2^64-1; without a content-length the body is empty
+-- RFC 9112, section 6.3: the content-length is one number of digits, here at most 2^64-1 and no list of equal ones;
+-- without any the body is empty
 abbrev pub GiveSize : List (List ℕ) → ℕ → Type 0
 GiveSize [] size = size ≡ 0
 GiveSize (value ∷ []) size = (IsNumeral 10 value × (digits_value 10 value ≤ 18446744073709551615)) × (digits_value 10 value ≡ size)

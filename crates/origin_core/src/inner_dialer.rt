@@ -43,7 +43,8 @@ impl InnerDialer {
 impl Dialer for InnerDialer {
     type Link = InnerLink;
 
-    ghost use Rattle.origin_core.specs.InnerDialers.{dialer_view, dialer_within, dialer_none_out, DialsPeer};
+    ghost use Rattle.std.specs.Prelude.{◌+◌};
+    ghost use Rattle.origin_core.specs.InnerDialers.{dialer_view, dialer_within, dialer_none_out, DialsPeer, DialsExactly};
 
     ghost seen = { dialer_view };
 
@@ -53,11 +54,12 @@ impl Dialer for InnerDialer {
     }
 
     /// Comes up with the first peer that has the target's host, port and security; fails exactly where there is none,
-    /// or where a `nodial` act of that peer fits the connection.
+    /// or where a `nodial` act of that peer fits the connection. The link may give the half of what is left, rounded up.
     fn dial(&mut self, alloc: Global, conn: ConnNo, target: &Target) -> Dialed<InnerLink>
         requires { IsSome (dialer_view self.old).staged }
         ensures law { Dials link_view (dialer_view self.old) conn.0 target.now result (dialer_view self.new) }
         ensures peer { DialsPeer (peers_of (dialer_view self.old).staged) conn.0 target.now result }
+        ensures exact { DialsExactly (dialer_view self.old) result (dialer_view self.new) }
     {
         if self.books.reserve(alloc).is_err() {
             return Dialed::NoMem;
@@ -76,7 +78,12 @@ impl Dialer for InnerDialer {
         Dialed::Up(InnerLink::dialed(alloc, peer, place), shown)
     }
 
-    fn retire(&mut self, conn: ConnNo, link: InnerLink) {
+    /// What the link didn't give of its allowance comes back.
+    fn retire(&mut self, conn: ConnNo, link: InnerLink)
+        requires { IsOut conn.0 (link_view link).place (dialer_view self.old).out }
+        ensures law { Retires (dialer_view self.old) (dialer_view self.new) conn.0 (link_view link) }
+        ensures back { (dialer_view self.new).left + (link_view link).gave ≡ (dialer_view self.old).left + (link_view link).allowance }
+    {
         let place = link.place;
         let tally = link.tally;
         let (written, received) = link.into_octets();

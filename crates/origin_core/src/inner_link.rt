@@ -1,9 +1,9 @@
 // A link to a scripted origin in memory.
-ghost use Rattle.std.specs.Prelude.{◌≡◌, ◌≤◌, ◌<◌, ◌++◌, [], length, take};
+ghost use Rattle.std.specs.Prelude.{◌≡◌, ◌≤◌, ◌<◌, ◌++◌, [], length};
 ghost use Rattle.origin_core.specs.ScriptedOrigin.{IsOriginAt, IsFrontOf, put_of};
 
 use crate::scripted_origin::ScriptedOrigin;
-use edge_traits::{Link, LinkRead, LinkWrite, NO_TALLY, OutLink, Tally};
+use edge_traits::{Link, LinkRead, LinkWrite, NO_TALLY, OutLink, Tally, put_front};
 use net_base::Peer;
 use std::alloc::Global;
 
@@ -55,11 +55,12 @@ impl InnerLink {
 impl Link for InnerLink {
     ghost use Rattle.std.specs.Prelude.{◌⊎◌};
     ghost use Rattle.edge_traits.specs.Links.{LinkReads, LinkWrites, LinkKeeps};
-    ghost use Rattle.origin_core.specs.InnerLinks.{link_view, link_within, peer_of, ReadsPut};
+    ghost use Rattle.origin_core.specs.InnerLinks.{link_view, link_within, peer_of, ReadsPut, CountsRead};
 
     ghost seen = { link_view };
 
-    /// Gives the next octets of what the origin puts for what was written. It never fails.
+    /// Gives the next octets of what the origin puts for what was written. It never fails, and counts each Quiet and each
+    /// End once.
     #[tactic(auto, using(crate::proofs::Origins::front_on))]
     fn read(&mut self, alloc: Global, buf: &mut [u8]) -> LinkRead
         requires { 0 < length buf.old }
@@ -68,6 +69,7 @@ impl Link for InnerLink {
         ensures used_up { (link_view self.old).gave ≡ (link_view self.old).allowance → result ≡ LinkRead.End }
         ensures puts { ReadsPut self.old result self.new }
         ensures peer { peer_of self.new ≡ peer_of self.old }
+        ensures counted { CountsRead (link_view self.old).counts result (link_view self.new).counts }
     {
         let room = self.place.allowance - self.received.len() as u64;
         if room == 0 {
@@ -96,7 +98,7 @@ impl Link for InnerLink {
         LinkRead::Got(piece.len())
     }
 
-    /// Takes the whole piece. It never fails.
+    /// Takes the whole piece. It never fails, and counts nothing.
     #[tactic(auto, using(crate::proofs::Origins::origin_longer))]
     fn write(&mut self, _alloc: Global, piece: &[u8]) -> LinkWrite
         requires { 0 < length piece.now }
@@ -106,6 +108,7 @@ impl Link for InnerLink {
             → (result ≡ LinkWrite.Failed) ⊎ (result ≡ LinkWrite.NoMem) }
         ensures whole { (result ≡ LinkWrite.Took (length piece.now)) ⊎ (result ≡ LinkWrite.NoMem) }
         ensures peer { peer_of self.new ≡ peer_of self.old }
+        ensures counted { (link_view self.new).counts ≡ (link_view self.old).counts }
     {
         if self.written.extend_from_slice(piece).is_err() {
             return LinkWrite::NoMem;
@@ -131,12 +134,4 @@ fn next_piece<'a>(put: &'a [u8], given: &[u8], most: usize, room: u64) -> &'a [u
         .min(most)
         .min(usize::try_from(room).unwrap_or(usize::MAX));
     &put[at..at + n]
-}
-
-/// Puts a piece at the front of a buffer.
-fn put_front(buffer: &mut [u8], piece: &[u8])
-    requires { length piece.now ≤ length buffer.old }
-    ensures { take (length piece.now) buffer.new ≡ piece.now }
-{
-    buffer[..piece.len()].copy_from_slice(piece);
 }

@@ -49,7 +49,7 @@ fn path_fits(asked: &Asked, path: &[u8]) -> bool
     path == b"*".as_slice() || path == asked.target.as_slice()
 }
 
-/// Whether an authority is none or the request's Host field.
+/// Whether an authority is none or that of a Host field of the request.
 fn authority_fits(asked: &Asked, authority: &Option<Octets>) -> bool
     ensures { result ≡ spec.authority_fits asked.now authority.now }
 {

@@ -4,16 +4,15 @@ ghost use Rattle.std.specs.Char.{digit_value};
 ghost use Rattle.std.specs.Str.Parse.{IsNumeral, digits_value};
 ghost use Rattle.httparse.specs.Grammar.{RequestHead};
 ghost use Rattle.httparse.specs.Spans.{header_bytes, span_bytes, IsHeaderWithin, IsWithin, name_and_value};
-ghost use Rattle.http_header.specs.Token.{lowercase};
 ghost use Rattle.h1_frames.specs.Heads.{lowered};
 ghost use Rattle.h1_frames.specs.Units.{BeginsWithUnit};
 ghost use Rattle.origin_core.specs.ScriptedRequests.{IsRequestUnit, Asks, AsksNothing, HasBodyOf, HasNoBodySize, IsNext};
 ghost use Rattle.origin_core.specs.declared.scripted_request.AskFault.TheVariants.{Unreadable};
 
-use h1_frames::head_unit;
+use h1_frames::{fields_from, head_unit};
 use httparse::Status;
 use httparse::spans::{EMPTY_HEADER_SPAN, HeaderSpan, Span, parse_request};
-use net_base::{Field, Fields, Listed, NoMem, Octets};
+use net_base::{Field, Fields, NoMem, Octets};
 use std::alloc::Global;
 
 /// What a request asks: its method, its target, and its fields in order, their names in lower case.
@@ -133,48 +132,12 @@ fn copy_asked(
 {
     let method = Octets::build(alloc, spans.method.of(unit))?;
     let target = Octets::build(alloc, spans.target.of(unit))?;
-    let fields = copy_fields(alloc, unit, fields)?;
+    let fields = fields_from(alloc, unit, fields)?;
     Ok(Asked {
         method,
         target,
         fields,
     })
-}
-
-/// The fields that the spans cover.
-fn copy_fields(alloc: Global, unit: &[u8], spans: &[HeaderSpan]) -> Result<Fields, NoMem>
-    requires { All (IsHeaderWithin (length unit.now)) spans.now }
-    ensures { IfOk result (λ fields. fields ≡ map (λ s. lowered (header_bytes unit.now s)) spans.now) }
-{
-    let mut fields = Listed::new();
-    for span in spans {
-        fields.push(alloc, copy_field(alloc, unit, *span)?)?;
-    }
-    Ok(fields)
-}
-
-/// The field that a span covers.
-fn copy_field(alloc: Global, unit: &[u8], span: HeaderSpan) -> Result<Field, NoMem>
-    requires { IsHeaderWithin (length unit.now) span }
-    ensures { IfOk result (λ field. field ≡ lowered (header_bytes unit.now span)) }
-{
-    let name = lower_case(alloc, span.name.of(unit))?;
-    let value = Octets::build(alloc, span.value.of(unit))?;
-    Ok(Field { name, value })
-}
-
-/// A copy in lower case.
-fn lower_case(alloc: Global, name: &[u8]) -> Result<Octets, NoMem>
-    ensures { IfOk result (λ lower. lower ≡ lowercase name.now) }
-{
-    match name
-        .iter()
-        .map(|b| b.to_ascii_lowercase())
-        .collect::<Vec<u8>>(alloc)
-    {
-        Ok(bytes) => Octets::build(alloc, bytes.as_slice()),
-        Err(_) => Err(NoMem),
-    }
 }
 
 /// The size of the body that the fields give, or `None` where their content-length isn't one number.

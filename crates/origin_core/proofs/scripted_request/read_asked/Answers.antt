@@ -2,7 +2,7 @@ use Rattle.std.proofs.Common.{◌≡◌, ◌∙◌, take, map, refl}
 use Rattle.httparse.specs.Grammar.{RequestHead}
 use Rattle.httparse.specs.Spans.{header_bytes, span_bytes, name_and_value}
 use Rattle.origin_core.specs.ScriptedRequests.{IsRequestUnit, asked_of}
-use Rattle.origin_core.proofs.AskedLemmas.{kept_fields}
+use Rattle.h1_frames.proofs.HeadFields.{kept_fields}
 use Rattle.origin_core.proofs.scripted_request.read_asked.Goals as goal
 
 pub returns-in-Ok-clause-asks : goal.returns-in-Ok-clause-asks
