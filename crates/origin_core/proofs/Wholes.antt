@@ -1,10 +1,10 @@
 -- Whole requests at the front of octets.
-use Rattle.std.proofs.Common.{◌≡◌, ◌⊎◌, ℕ, zero, suc, ◌+◌, ◌<◌, ◌≤◌, List, [], ◌∷◌, ◌++◌, length, take, drop, flat_map, refl, ap, sym, ◌∙◌, subst, inl, inr, arith, length-append, length-take, length-drop, append_assoc, suc-add, zero-add}
+use Rattle.std.proofs.Common.{◌≡◌, ℕ, zero, suc, ◌+◌, ◌<◌, ◌≤◌, List, [], ◌∷◌, ◌++◌, length, take, drop, refl, ap, sym, subst, inl, inr, arith, length-append, length-take, length-drop, suc-add, zero-add}
 use Rattle.std.proofs.lemmas.Grind.{flat_map-append, common_steps}
 use Rattle.h1_frames.specs.Units.{IsHeadUnit, BeginsWithUnit, lines_text}
 use Rattle.origin_core.specs.declared.scripted_request.Asked.{Asked}
 use Rattle.origin_core.specs.declared.scripted_request.NextRequest.TheVariants.{Whole, Unfinished, Unreadable}
-use Rattle.origin_core.specs.ScriptedRequests.{Asks, AsksNothing, HasBodyOf, HasNoBodySize, IsWhole, IsNext, IsUnfinished, IsUnreadable}
+use Rattle.origin_core.specs.ScriptedRequests.{Asks, AsksNothing, HasBodyOf, HasNoBodySize, IsNext}
 
 pub take_more : {A : Type 0} (s : List A) (i n : ℕ) → take (i + n) s ≡ take i s ++ take n (drop i s)
 take_more [] i n = grind (arith, common_steps)

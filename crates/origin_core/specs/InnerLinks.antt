@@ -1,6 +1,6 @@
 -- A link to a scripted origin in memory, which tells all, and whose octets are what the origin puts for the octets that
 -- were written to it.
-use Rattle.std.specs.Prelude.{◌≡◌, ◌⊎◌, ◌<◌, ◌≤◌, ℕ, Bool, true, false, List, length}
+use Rattle.std.specs.Prelude.{◌≡◌, ◌⊎◌, ◌<◌, ℕ, Bool, true, false, List}
 use Rattle.std.proofs.Math.Nat.{le_of_lt}
 use Rattle.net_base.specs.declared.peer.Peer.{Peer}
 use Rattle.edge_traits.specs.declared.link.LinkRead.{LinkRead}

@@ -3,7 +3,6 @@ use Rattle.std.specs.Prelude.{ℕ, Bool, true, false, ◌&&◌, ◌||◌, ◌==�
 use Rattle.std.specs.List.{list_any}
 use Rattle.std.specs.Fmt.{decimal}
 use Rattle.net_base.specs.declared.field.Field.{Field}
-use Rattle.net_base.specs.declared.peer.Peer.{Peer}
 use Rattle.net_base.specs.declared.peer.Answer.{Answer}
 use Rattle.net_base.specs.declared.peer.AnswerBody.{AnswerBody}
 use Rattle.net_base.specs.declared.peer.AnswerBody.TheVariants.{Text, Size}

@@ -1,5 +1,5 @@
 // The dialer of scripted origins in memory.
-ghost use Rattle.std.specs.Prelude.{◌≡◌, [], ◌∷◌, IfOk, IsNone, IsSome, OnOk, OnErr, find, Some};
+ghost use Rattle.std.specs.Prelude.{◌≡◌, ◌+◌, [], ◌∷◌, IfOk, IsNone, IsSome, OnOk, OnErr, find, Some};
 ghost use Rattle.std.specs.Option.{option_copied};
 ghost use Rattle.edge_traits.specs.Dialers.{Stages, Dials, Retires, IsOut};
 ghost use Rattle.edge_traits.specs.Books.{unused_view, peers_of};
@@ -43,7 +43,6 @@ impl InnerDialer {
 impl Dialer for InnerDialer {
     type Link = InnerLink;
 
-    ghost use Rattle.std.specs.Prelude.{◌+◌};
     ghost use Rattle.origin_core.specs.InnerDialers.{dialer_view, dialer_within, dialer_none_out, DialsPeer, DialsExactly};
 
     ghost seen = { dialer_view };

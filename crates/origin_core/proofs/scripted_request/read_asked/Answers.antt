@@ -1,7 +1,7 @@
 use Rattle.std.proofs.Common.{◌≡◌, ◌∙◌, take, map, refl}
 use Rattle.httparse.specs.Grammar.{RequestHead}
 use Rattle.httparse.specs.Spans.{header_bytes, span_bytes, name_and_value}
-use Rattle.origin_core.specs.ScriptedRequests.{IsRequestUnit, asked_of}
+use Rattle.origin_core.specs.ScriptedRequests.{IsRequestUnit}
 use Rattle.h1_frames.proofs.HeadFields.{kept_fields}
 use Rattle.origin_core.proofs.scripted_request.read_asked.Goals as goal
 

@@ -1,4 +1,4 @@
-use Rattle.std.proofs.Common.{rules, arith}
+use Rattle.std.proofs.Common.{arith}
 use Rattle.origin_core.proofs.Wholes.{whole_request, sizes_none}
 use Rattle.origin_core.proofs.scripted_request.request_of.Goals as goal
 

@@ -1,4 +1,4 @@
-use Rattle.std.proofs.Common.{rules, arith, is_ok}
+use Rattle.std.proofs.Common.{arith, is_ok}
 use Rattle.origin_core.proofs.InnerLinks.{origin_after}
 use Rattle.origin_core.proofs.inner_link.InnerLinkLink.write.Goals as goal
 

@@ -1,7 +1,7 @@
 use Rattle.std.proofs.Common.{rules, ◌≡◌, ◌++◌, List, ℕ, subst, refl, drop}
 use Rattle.origin_core.specs.declared.scripted_request.NextRequest.{NextRequest}
 use Rattle.origin_core.specs.declared.scripted_request.NextRequest.TheVariants.{Whole}
-use Rattle.origin_core.specs.ScriptedRequests.{IsNext, IsUnfinished}
+use Rattle.origin_core.specs.ScriptedRequests.{IsNext}
 use Rattle.origin_core.specs.ScriptedAnswers.{text_for}
 use Rattle.origin_core.proofs.Origins.{origin_more, origin_same}
 use Rattle.origin_core.proofs.scripted_origin.ScriptedOrigin.step.Goals as goal
