@@ -20,7 +20,9 @@ use Rattle.scenario_text.specs.declared.small_form.SmallForm.{SmallForm}
 
 -- ---- JSON
 
--- the octets are JSON, and this is its value
+-- The octets are JSON, and this is its value: UTF-8 of RFC 8259, with at most 127 arrays and objects within each other,
+-- only numbers whose nearest 64-bit float is finite, and no escape of a surrogate that isn't one of a pair. Of two members
+-- of one name in an object the last counts.
 abbrev pub IsJson : List ℕ → Data → Type 0
 IsJson bytes d = IsUtf8 bytes × (read bytes ≡ Some d)
 
