@@ -1,5 +1,5 @@
 -- How a run ended, and what the top call says of it.
-use Rattle.std.proofs.Common.{◌≡◌, ◌⊎◌, ℕ, ◌<◌, ◌≤◌, Bool, IsTrue, List, [], ◌∷◌, ◌++◌, map, codes, length, slice_index_or, slice_set, String, string_bytes, Global, Option, None, Some, Ok, inl, inr, refl, sym, ap, subst, ◌∙◌, arith, suc, zero}
+use Rattle.std.proofs.Common.{◌≡◌, ℕ, ◌<◌, ◌≤◌, Bool, IsTrue, List, [], ◌∷◌, map, codes, length, slice_index_or, slice_set, String, string_bytes, Global, Option, None, Some, Ok, inl, inr, refl, sym, ap, subst, ◌∙◌, arith}
 use Rattle.edge_traits.specs.Sources.{SourceView}
 use Rattle.edge_traits.specs.Sinks.{SinkView}
 use Rattle.edge_traits.specs.Dialers.{DialerView}
@@ -13,7 +13,7 @@ use Rattle.pool_run.specs.declared.streams.Input.TheVariants.{All}
 use Rattle.pool_run.specs.Streams.{IsInput, ReadsInput}
 use Rattle.scenario_text.specs.SmallForm.{IsForm}
 use Rattle.pool_run.specs.Serial.{Reports, RunsForm}
-use Rattle.pool_run.specs.Desk.{IsSerial, Ends, DeskDid, status_of, report_status, IsRunStatus, FirstChanged}
+use Rattle.pool_run.specs.Desk.{IsSerial, Ends, DeskDid, status_of, report_status, IsRunStatus}
 
 of_report : (told : Report) → IsRunStatus (report_status told)
 of_report (report.Answered text) = inl refl
@@ -77,7 +77,7 @@ desk_did (ending.LacksMemory None) s r k n v w others before after b a e = recor
   refused = λ i. absurd (omega arith);
   source_failed = λ i. absurd (omega arith);
   sink_failed = λ i. absurd (omega arith);
-  memory = λ i. inl e;
+  memory = λ i. inl (e.0, (v, w, others, b, a, e.1));
   unbuilt = λ i. absurd (omega arith);
 }
 desk_did (ending.LacksMemory (Some told)) s r k n v w others before after b a e = record {

@@ -1,14 +1,16 @@
 -- A dial, what was said over its link and its retirement, put together.
-use Rattle.std.proofs.Common.{◌≡◌, ◌⊎◌, ℕ, ◌+◌, ◌≤◌, ◌<◌, min, List, [], ◌∷◌, ◌++◌, length, sum_by, Option, None, Some, Ok, inl, inr, refl, sym, ap, subst, ◌∙◌, arith}
-use Rattle.std.proofs.lemmas.List.Sums.{sum_by_push, sum_by-append}
+use Rattle.std.proofs.Common.{◌≡◌, ℕ, ◌≤◌, List, [], ◌∷◌, ◌++◌, length, sum_by, Option, None, Some, Result, Ok, Err, IsErr, inl, inr, sym, ap, subst, ◌∙◌, arith}
+use Rattle.std.proofs.lemmas.List.Sums.{sum_by_push}
+use Rattle.std.proofs.lemmas.List.{append-nil}
+use Rattle.net_base.specs.declared.memory.NoMem.{NoMem}
 use Rattle.net_base.specs.declared.target.Target.{Target}
 use Rattle.net_base.specs.declared.identity.Identity.{Identity}
-use Rattle.edge_traits.specs.Counts.{Rose, Counts, count_sum, counts_sum}
-use Rattle.edge_traits.specs.Told.{Grew, StaysIfTold}
+use Rattle.edge_traits.specs.Counts.{Rose, Counts, count_sum}
+use Rattle.edge_traits.specs.Told.{Grew}
 use Rattle.edge_traits.specs.Links.{Place, LinkView, LinkDid}
-use Rattle.edge_traits.specs.Dialers.{DialerView, DialedUp, Retires, TakenOut, IsAt, listed, LogLine}
-use Rattle.edge_traits.proofs.Steps.{did_none, one_line, may_retire}
-use Rattle.pool_run.specs.Conversation.{RoseBy, Spoke, IsStuck, Talks}
+use Rattle.edge_traits.specs.Dialers.{DialerView, DialedUp, Retires, TakenOut, IsAt, listed}
+use Rattle.edge_traits.proofs.Steps.{one_line}
+use Rattle.pool_run.specs.Conversation.{RoseBy, Spoke, IsStuck}
 use Rattle.pool_run.specs.Serial as serial
 use Rattle.pool_run.specs.Serial.{IsQuiet}
 use Rattle.net_base.specs.declared.request.Request.{Request}
@@ -17,10 +19,9 @@ use Rattle.pool_run.specs.declared.serial.Said.{Said}
 use Rattle.pool_run.specs.declared.serial.Said.TheVariants.{Told}
 use Rattle.pool_run.specs.declared.conversation.Talk.TheVariants as talk
 use Rattle.pool_run.specs.declared.report.Unbuilt.TheVariants as unbuilt
+use Rattle.pool_run.specs.declared.report.Report.{Report}
 use Rattle.pool_run.specs.JournalText.{exchange_text}
-use Rattle.pool_run.specs.Exchange.{Says, DialedStaged, UpStaged, UnbuiltStaged, AnsweredStaged}
-use Rattle.pool_run.specs.FirstAnswer.{Stands}
-use Rattle.pool_run.specs.declared.first_answer.Standing.TheVariants as standing
+use Rattle.pool_run.specs.Exchange.{Says, DialedStaged, UpStaged, UnbuiltStaged, AnsweredStaged, StopsStaged, RunsStaged}
 
 -- a dial and its retirement leave the same places out
 same_out : (before mid after : List Place) (place : Option Place) → IsAt 1 place → mid ≡ before ++ listed place → TakenOut mid place after
@@ -119,3 +120,21 @@ pub answer_told : (v e w : DialerView) (l k : LinkView) (request : Request) (tar
     → told ≡ exchange_text request identity (length text) round response → AnsweredStaged v w request target text told
 answer_told v e w l k request target identity text told round response said is up retired s journal =
     answer_of v e w l k request target identity text told round response up retired (subst (λ (x : Said). Says l identity text (Ok x) k) is s) journal
+
+-- without memory: while the text was said, or for the journal of an answer
+pub lacks_said : (v e w : DialerView) (l k : LinkView) (target : Target) (identity : Identity) (text : List ℕ) (why : NoMem)
+    → DialedUp v e 1 target l identity → Retires e w 1 k → Says l identity text (Err why) k → StopsStaged v target text w
+lacks_said v e w l k target identity text why up retired s =
+    inr (identity, s.0, s.1, came_up v e w l k target identity text s.0 s.1 up s.2 retired)
+
+pub lacks_journal : (v e w : DialerView) (l k : LinkView) (target : Target) (identity : Identity) (text : List ℕ) (round : ℕ) (response : Response) (said : Said)
+    → said ≡ Told (talk.Answered round response) → DialedUp v e 1 target l identity → Retires e w 1 k → Says l identity text (Ok said) k → StopsStaged v target text w
+lacks_journal v e w l k target identity text round response said is up retired s =
+    let told = subst (λ (x : Said). Says l identity text (Ok x) k) is s in
+    let spoke : Spoke l k text text told.1.0 = record { did = told.1.1; rest = []; begins = sym (append-nil text) } in
+    inr (identity, text, told.1.0, came_up v e w l k target identity text text told.1.0 up spoke retired)
+
+pub stops_err : (v w : DialerView) (request : Request) (target : Target) (text : List ℕ) (result : Result Report NoMem)
+    → IsErr result → StopsStaged v target text w → RunsStaged v request target text result w
+stops_err v w request target text (Ok told) is s = cc
+stops_err v w request target text (Err why) is s = s

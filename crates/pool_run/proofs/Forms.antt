@@ -1,11 +1,12 @@
 -- A dialer that was staged, and then a run over it.
-use Rattle.std.proofs.Common.{◌≡◌, ◌⊎◌, ℕ, List, [], ◌∷◌, ◌++◌, Option, None, Some, Result, Ok, Err, inl, inr, refl, sym, ap, subst, ◌∙◌, sum_by}
+use Rattle.std.proofs.Common.{◌≡◌, ℕ, List, [], Option, None, Some, Result, Ok, Err, inl, inr, sym, ap, subst, ◌∙◌, sum_by}
+use Rattle.std.proofs.lemmas.List.{append-nil}
 use Rattle.net_base.specs.declared.memory.NoMem.{NoMem}
 use Rattle.net_base.specs.declared.target.Target.{Target}
 use Rattle.net_base.specs.declared.identity.Identity.{Identity}
 use Rattle.edge_traits.specs.Counts.{Rose, Counts}
 use Rattle.edge_traits.specs.Told.{Grew, StaysIfTold}
-use Rattle.edge_traits.specs.Dialers.{DialerView, Stages, LogLine}
+use Rattle.edge_traits.specs.Dialers.{DialerView, Stages, DialLacked, LogLine}
 use Rattle.edge_traits.specs.declared.dialer.NetKind.TheVariants.{Inner}
 use Rattle.h1_frames.specs.RequestText.{request_text}
 use Rattle.scenario_text.specs.declared.small_form.SmallForm.{SmallForm}
@@ -14,7 +15,7 @@ use Rattle.pool_run.specs.declared.report.Unbuilt.TheVariants as unbuilt
 use Rattle.pool_run.specs.declared.report.Report.{Report}
 use Rattle.pool_run.specs.declared.report.Report.TheVariants as report
 use Rattle.pool_run.specs.Conversation.{RoseBy}
-use Rattle.pool_run.specs.Serial.{AddsIfTold, DialedOnce, CameUp, WasOpen, AnsweredOnce, IsUnbuilt, IsQuiet, RunsForm, clear_direct}
+use Rattle.pool_run.specs.Serial.{AddsIfTold, DialedOnce, CameUp, WasOpen, AnsweredOnce, IsUnbuilt, IsQuiet, StagedOnly, RunsForm, clear_direct}
 use Rattle.pool_run.specs.Exchange.{DialedStaged, UpStaged, OpenStaged, AnsweredStaged, UnbuiltStaged, RunsStaged}
 
 adds_from : {A : Type 0} (a b : Option (List A)) (more : List A) (c : Option (List A)) → StaysIfTold a b → Grew b more c → AddsIfTold a more c
@@ -22,6 +23,20 @@ adds_from a b more None stays grew = tt
 adds_from a None more (Some after) stays grew = cc
 adds_from a (Some items) more (Some after) (inl is) grew = (items, sym is, cc)
 adds_from a (Some items) more (Some after) (inr is) grew = cc
+
+-- nothing was added to what stays
+nothing_adds : {A : Type 0} (a b c : Option (List A)) → StaysIfTold a b → c ≡ b → AddsIfTold a [] c
+nothing_adds a b None stays is = tt
+nothing_adds a b (Some items) (inl stays) is = (items, sym (is ∙ stays), sym (append-nil items))
+nothing_adds a b (Some items) (inr stays) is = let none : Some items ≡ None = is ∙ stays in cc
+
+staged_form : (u v w : DialerView) (form : SmallForm) → Stages u v Inner form.peers → DialLacked v w → StagedOnly u w form
+staged_form u v w form stages d = record {
+  staged = d.staged ∙ stages.staged;
+  records = nothing_adds u.records v.records w.records stages.records d.records;
+  log = nothing_adds u.log v.log w.log stages.log d.log;
+  out = λ f. ap (λ (xs : List _). sum_by f xs) (d.out ∙ stages.out);
+}
 
 dialed_form : (u v w : DialerView) (form : SmallForm) (identity : Option Identity) (lines : List LogLine)
     → Stages u v Inner form.peers → DialedStaged v w (clear_direct form.request.origin) identity lines → DialedOnce u w form identity lines
@@ -96,4 +111,7 @@ runs_form u v w form target text (Ok (report.Answered told)) stages at is s =
 runs_form u v w form target text (Ok (report.Refused why)) stages at is s = s
 runs_form u v w form target text (Ok (report.Unbuilt word)) stages at is s =
     unbuilt_form u v w form text word stages is (subst (λ (t : Target). UnbuiltStaged v w t text word) at s)
-runs_form u v w form target text (Err e) stages at is s = tt
+runs_form u v w form target text (Err e) stages at is (inl lacked) = inr (inl (staged_form u v w form stages lacked))
+runs_form u v w form target text (Err e) stages at is (inr s) =
+    let up = subst (λ (t : Target). UpStaged v w t text s.0 s.1 s.2) at s.3 in
+    inr (inr (s.0, s.1, s.2, up_form u v w form text s.0 s.1 s.2 stages is up))

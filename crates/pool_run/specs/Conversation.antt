@@ -1,5 +1,5 @@
 -- What comes of a conversation over one link: the request's text goes out, and one answer comes back (RFC 9112, section 9).
-use Rattle.std.specs.Prelude.{◌≡◌, ◌⊎◌, ◌+◌, ◌-◌, ◌<◌, ◌≤◌, ◌^◌, ℕ, min, List, [], ◌∷◌, ◌++◌, length, take, drop, Result, Ok, Err}
+use Rattle.std.specs.Prelude.{◌≡◌, ◌⊎◌, ◌+◌, ◌<◌, ◌≤◌, ◌^◌, ℕ, min, List, [], ◌++◌, length, Result, Ok, Err}
 use Rattle.net_base.specs.declared.memory.NoMem.{NoMem}
 use Rattle.net_base.specs.declared.response.Response.{Response}
 use Rattle.edge_traits.specs.Counts.{Rose}
@@ -32,14 +32,14 @@ IsNoAnswer put got = ((put ≡ []) × (0 < length got)) ⊎ Stands got standing.
 abbrev pub QuietReads : ℕ → LinkView → LinkView → Type 0
 QuietReads k before after = RoseBy k before.counts.read_quiets after.counts.read_quiets
 
--- nothing moved for 10000 rounds: the text is out, no whole answer came and reads were quiet; or writes were
+-- the text is out, no whole answer came and 10000 reads at least were quiet; or so many writes were
 abbrev pub IsStuck : LinkView → LinkView → List ℕ → List ℕ → List ℕ → Type 0
 IsStuck before after text put got =
     ((put ≡ text) × Stands got standing.More × QuietReads 10000 before after)
     ⊎ RoseBy 10000 before.counts.write_quiets after.counts.write_quiets
 
--- each outcome shows itself by what went over the link and by the link's counts: an answer also by the quiet reads of
--- the three rounds behind it
+-- each outcome shows itself by what went over the link and by the link's counts: an answer also by three quiet reads at
+-- least, of which the count doesn't say that they came behind it
 abbrev pub Talks : LinkView → List ℕ → Result Talk NoMem → LinkView → Type 0
 Talks before text (Ok (Answered round response)) after =
     (got : List ℕ) × LinkDid before after text got × IsFirstAnswer got response × QuietReads 3 before after

@@ -1,5 +1,5 @@
 -- What the top call answers on `serial`, status by status.
-use Rattle.std.specs.Prelude.{◌≡◌, ◌⊎◌, ℕ, List, [], ◌∷◌, ◌++◌, map, codes, Option, None, Some, Result, Ok, Err, String, string_bytes}
+use Rattle.std.specs.Prelude.{◌≡◌, ◌⊎◌, ℕ, List, [], ◌∷◌, map, codes, Option, None, Some, Result, Ok, Err, String, string_bytes}
 use Rattle.std.specs.declared.alloc.Global.{Global}
 use Rattle.net_base.specs.declared.memory.NoMem.{NoMem}
 use Rattle.edge_traits.specs.Counts.{Rose}
@@ -14,9 +14,8 @@ use Rattle.pool_run.specs.declared.report.Report.{Report}
 use Rattle.pool_run.specs.declared.report.Report.TheVariants as report
 use Rattle.pool_run.specs.declared.ending.Ending.{Ending}
 use Rattle.pool_run.specs.declared.ending.Ending.TheVariants as ending
-use Rattle.pool_run.specs.Streams.{IsInput, WritesFront}
-use Rattle.scenario_text.specs.SmallForm.{IsForm}
-use Rattle.pool_run.specs.Serial.{IsRefused, HasForm, AnsweredOnce, IsUnbuilt, Reports, report_text, refusal_line, unbuilt_line}
+use Rattle.pool_run.specs.Streams.{WritesFront}
+use Rattle.pool_run.specs.Serial.{IsRefused, HasForm, AnsweredOnce, IsUnbuilt, LacksReport, Reports, report_text, refusal_line, unbuilt_line}
 
 -- the words of the command
 abbrev pub IsSerial : List (String Global) → Type 0
@@ -53,9 +52,11 @@ abbrev pub FailsWriting : SourceView → SinkView → List DialerView → SinkVi
 FailsWriting source sink before written after =
     Rose sink.faults written.faults × WritesReport source sink before written after
 
--- status 6: want of memory, with nothing written, or a front of the text that the run has
+-- status 6: want of memory, before there was a report, with nothing written and the first dialer as far as the run came;
+-- or behind a front of the text that the run has
 abbrev pub LacksMemory : SourceView → SinkView → List DialerView → SinkView → List DialerView → Type 0
-LacksMemory source sink before written after = (written ≡ sink) ⊎ WritesReport source sink before written after
+LacksMemory source sink before written after =
+    ((written ≡ sink) × FirstChanged before after (λ v w. LacksReport source.left v w)) ⊎ WritesReport source sink before written after
 
 -- status 8: the input is of the small form; its course can't be told yet, and the word that says why was written
 abbrev pub LeavesUnbuilt : SourceView → SinkView → List DialerView → SinkView → List DialerView → Type 0
@@ -63,13 +64,22 @@ LeavesUnbuilt source sink before written after =
     (form : SmallForm) × (word : Unbuilt) × HasForm source.left form × FirstChanged before after (λ v w. IsUnbuilt v w form word)
     × Grew sink.written (unbuilt_line word) written.written
 
+-- a status of a run: told, refused, a read or a write failed, no memory, or unbuilt
+abbrev pub IsRunStatus : ℕ → Type 0
+IsRunStatus status =
+    (status ≡ 0) ⊎ ((status ≡ 3) ⊎ ((status ≡ 4) ⊎ ((status ≡ 5) ⊎ ((status ≡ 6) ⊎ (status ≡ 8)))))
+
+-- a status of the program: 2 for words that are no command, or that of a run
+abbrev pub IsStatus : ℕ → Type 0
+IsStatus status = (status ≡ 2) ⊎ IsRunStatus status
+
 -- ---- the same by how the run ended
 
--- what a run has to say, or nothing where a read failed
+-- what a run has to say, nothing where a read failed, or what it leaves without memory
 abbrev pub HasReport : SourceView → DialerView → Result (Option Report) NoMem → SourceView → DialerView → Type 0
 HasReport source before (Ok (Some told)) read after = Reports source.left before told after
 HasReport source before (Ok None) read after = Rose source.faults read.faults × (after ≡ before)
-HasReport source before (Err e) read after = Unit {0}
+HasReport source before (Err e) read after = LacksReport source.left before after
 
 -- what writing a report came to
 abbrev pub TellsReport : SinkView → Report → Ending → SinkView → Type 0
@@ -87,7 +97,7 @@ Ends source sink before (ending.Told told) read written after =
 Ends source sink before ending.SourceFailed read written after = Rose source.faults read.faults × (written ≡ sink) × (after ≡ before)
 Ends source sink before (ending.SinkFailed told) read written after =
     Reports source.left before told after × Rose sink.faults written.faults × WritesFront sink (report_text told) written
-Ends source sink before (ending.LacksMemory None) read written after = written ≡ sink
+Ends source sink before (ending.LacksMemory None) read written after = (written ≡ sink) × LacksReport source.left before after
 Ends source sink before (ending.LacksMemory (Some told)) read written after =
     Reports source.left before told after × WritesFront sink (report_text told) written
 
@@ -110,12 +120,3 @@ pub record DeskDid (status : ℕ) (source read : SourceView) (sink written : Sin
   pub sink_failed : status ≡ 5 → FailsWriting source sink before written after
   pub memory : status ≡ 6 → LacksMemory source sink before written after
   pub unbuilt : status ≡ 8 → LeavesUnbuilt source sink before written after
-
--- a status of a run: told, refused, a read or a write failed, no memory, or unbuilt
-abbrev pub IsRunStatus : ℕ → Type 0
-IsRunStatus status =
-    (status ≡ 0) ⊎ ((status ≡ 3) ⊎ ((status ≡ 4) ⊎ ((status ≡ 5) ⊎ ((status ≡ 6) ⊎ (status ≡ 8)))))
-
--- a status of the program: 2 for words that are no command, or that of a run
-abbrev pub IsStatus : ℕ → Type 0
-IsStatus status = (status ≡ 2) ⊎ IsRunStatus status

@@ -1,5 +1,5 @@
 -- The exchange over a dialer that was staged, step by step.
-use Rattle.std.specs.Prelude.{◌≡◌, ◌⊎◌, ◌<◌, ◌≤◌, ℕ, List, [], ◌∷◌, ◌++◌, length, sum_by, Option, Some, None, Result, Ok, Err}
+use Rattle.std.specs.Prelude.{◌≡◌, ◌⊎◌, ◌≤◌, ℕ, List, [], ◌∷◌, ◌++◌, length, sum_by, Option, Some, None, Result, Ok, Err}
 use Rattle.net_base.specs.declared.memory.NoMem.{NoMem}
 use Rattle.net_base.specs.declared.request.Request.{Request}
 use Rattle.net_base.specs.declared.response.Response.{Response}
@@ -9,7 +9,7 @@ use Rattle.net_base.specs.declared.identity.Identity.{Identity}
 use Rattle.edge_traits.specs.Counts.{Rose}
 use Rattle.edge_traits.specs.Told.{Grew}
 use Rattle.edge_traits.specs.Links.{Place, LinkView}
-use Rattle.edge_traits.specs.Dialers.{DialerView, LogLine}
+use Rattle.edge_traits.specs.Dialers.{DialerView, DialLacked, LogLine}
 use Rattle.pool_run.specs.declared.serial.Said.{Said}
 use Rattle.pool_run.specs.declared.serial.Said.TheVariants.{Told, OtherProtocol}
 use Rattle.pool_run.specs.declared.report.Unbuilt.{Unbuilt}
@@ -73,8 +73,14 @@ UnbuiltStaged before after target text unbuilt.Quiet =
     (identity : Identity) × (put : List ℕ) × (got : List ℕ) × OpenStaged before after target text identity put got
     × IsQuiet before after text put got
 
+-- without memory: before the dial answered, or once the connection had come up, which then was retired
+abbrev pub StopsStaged : DialerView → Target → List ℕ → DialerView → Type 0
+StopsStaged before target text after =
+    DialLacked before after
+    ⊎ ((identity : Identity) × (put : List ℕ) × (got : List ℕ) × UpStaged before after target text identity put got)
+
 abbrev pub RunsStaged : DialerView → Request → Target → List ℕ → Result Report NoMem → DialerView → Type 0
 RunsStaged before request target text (Ok (report.Answered told)) after = AnsweredStaged before after request target text told
 RunsStaged before request target text (Ok (report.Refused why)) after = ⊥
 RunsStaged before request target text (Ok (report.Unbuilt word)) after = UnbuiltStaged before after target text word
-RunsStaged before request target text (Err e) after = Unit {0}
+RunsStaged before request target text (Err e) after = StopsStaged before target text after

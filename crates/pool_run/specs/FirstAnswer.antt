@@ -1,5 +1,5 @@
 -- The one form of answer that is read so far: a whole response whose length is told (RFC 9112, sections 4 to 6).
-use Rattle.std.specs.Prelude.{◌≡◌, ◌⊎◌, ◌<◌, ◌≤◌, ◌+◌, ℕ, Bool, false, List, [], length, drop, codes, bytes_eq, count_by, find, Option, Some}
+use Rattle.std.specs.Prelude.{◌≡◌, ◌⊎◌, ◌<◌, ◌≤◌, ◌+◌, ℕ, Bool, false, List, [], length, drop, codes, bytes_eq, count_by, find, Some}
 use Rattle.std.specs.List.{list_any, AllPass}
 use Rattle.std.specs.Char.{is_ascii_digit}
 use Rattle.std.specs.Str.Parse.{digits_value}

@@ -5,7 +5,6 @@ use Rattle.std.specs.Fmt.{decimal}
 use Rattle.hex.specs.Hex.{encode_lower}
 use Rattle.net_base.specs.declared.field.Field.{Field}
 use Rattle.net_base.specs.declared.origin.Origin.{Origin}
-use Rattle.net_base.specs.declared.target.Target.{Target}
 use Rattle.net_base.specs.declared.target.Proto.{Proto}
 use Rattle.net_base.specs.declared.target.Proto.TheVariants.{H1, H2}
 use Rattle.net_base.specs.Origins.{scheme_text}

@@ -1,5 +1,5 @@
 -- What a run of `serial` over the small form may say, and what shows it.
-use Rattle.std.specs.Prelude.{◌≡◌, ◌⊎◌, ◌<◌, ◌≤◌, ℕ, List, [], ◌∷◌, ◌++◌, false, length, sum_by, codes, Option, Some, None, Result, Ok, Err}
+use Rattle.std.specs.Prelude.{◌≡◌, ◌⊎◌, ◌≤◌, ℕ, List, [], ◌∷◌, ◌++◌, false, length, sum_by, codes, Option, Some, None, Result, Ok, Err}
 use Rattle.net_base.specs.declared.memory.NoMem.{NoMem}
 use Rattle.net_base.specs.declared.origin.Origin.{Origin}
 use Rattle.net_base.specs.declared.target.Target.{Target}
@@ -10,7 +10,7 @@ use Rattle.net_base.specs.declared.response.Response.{Response}
 use Rattle.edge_traits.specs.declared.dialer.NetKind.TheVariants.{Inner}
 use Rattle.edge_traits.specs.Counts.{Rose}
 use Rattle.edge_traits.specs.Links.{Place}
-use Rattle.edge_traits.specs.Dialers.{DialerView, DialRecord, LogLine, Staging}
+use Rattle.edge_traits.specs.Dialers.{DialerView, LogLine}
 use Rattle.h1_frames.specs.RequestText.{request_text}
 use Rattle.scenario_text.specs.declared.small_form.SmallForm.{SmallForm}
 use Rattle.pool_run.specs.declared.report.Refusal.{Refusal}
@@ -63,8 +63,9 @@ pub record DialedOnce (before after : DialerView) (form : SmallForm) (identity :
 abbrev pub one_line : List ℕ → List ℕ → List LogLine
 one_line written received = record { conn = 1; written = written; received = received } ∷ []
 
--- the exchange went over the connection: the request's text was written, one answer of the first form received, in a
--- round from 2 on, and nothing came in the three rounds behind it; the text is its journal and summary
+-- the exchange went over the connection: the request's text was written, and one answer of the first form and nothing
+-- else received, in a round from 2 on; three reads at least were quiet, where the count doesn't say which; the text is
+-- its journal and summary
 pub record AnsweredOnce (before after : DialerView) (form : SmallForm) (text : List ℕ) : Type 0 where
   pub identity : Identity
   pub received : List ℕ
@@ -124,18 +125,40 @@ unbuilt_line unbuilt.End = codes "unbuilt end" ++ 10 ∷ []
 unbuilt_line unbuilt.Octets = codes "unbuilt octets" ++ 10 ∷ []
 unbuilt_line unbuilt.Quiet = codes "unbuilt quiet" ++ 10 ∷ []
 
+-- ---- want of memory
+
+-- the dialer was staged with the scenario's peers, but no dial is recorded, the log has no new line, and it has no link
+-- out that wasn't
+pub record StagedOnly (before after : DialerView) (form : SmallForm) : Type 0 where
+  pub staged : after.staged ≡ Some (record { net = Inner; peers = form.peers })
+  pub records : AddsIfTold before.records [] after.records
+  pub log : AddsIfTold before.log [] after.log
+  pub out : (f : Place → ℕ) → sum_by f after.out ≡ sum_by f before.out
+
+-- where the run of an exchange stopped short: before the dialer was staged, before its dial answered, or once the
+-- connection had come up, which then was retired
+abbrev pub StopsShort : DialerView → SmallForm → DialerView → Type 0
+StopsShort before form after =
+    (after ≡ before)
+    ⊎ (StagedOnly before after form
+    ⊎ ((identity : Identity) × (put : List ℕ) × (got : List ℕ) × CameUp before after form identity put got))
+
 -- ---- the report
 
 -- the input is of the small form, and this is the form
 abbrev pub HasForm : Option (List ℕ) → SmallForm → Type 0
 HasForm left form = (bytes : List ℕ) × IsInput left bytes × IsForm bytes form
 
--- what a run of an exchange says
+-- without memory for a report the dialer hasn't changed, or the input is of the small form and its run stopped short
+abbrev pub LacksReport : Option (List ℕ) → DialerView → DialerView → Type 0
+LacksReport left before after = (after ≡ before) ⊎ ((form : SmallForm) × HasForm left form × StopsShort before form after)
+
+-- what a run of an exchange says, and what it leaves without memory
 abbrev pub RunsForm : DialerView → SmallForm → Result Report NoMem → DialerView → Type 0
 RunsForm before form (Ok (report.Answered text)) after = AnsweredOnce before after form text
 RunsForm before form (Ok (report.Refused why)) after = ⊥
 RunsForm before form (Ok (report.Unbuilt word)) after = IsUnbuilt before after form word
-RunsForm before form (Err e) after = Unit {0}
+RunsForm before form (Err e) after = StopsShort before form after
 
 -- what a run says of the octets that its source had left
 abbrev pub Reports : Option (List ℕ) → DialerView → Report → DialerView → Type 0
