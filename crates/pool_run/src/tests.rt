@@ -232,7 +232,7 @@ fn a_failed_read_ends_with_4_and_a_failed_write_with_5(rt: HostRuntime) -> Resul
     assert_eq!(rt; read.status, 4);
     assert_eq!(rt; read.text.len(), 0);
     let whole = serial_over_inner(alloc, EXAMPLE)?;
-    for n in 1..=10u64 {
+    for n in 1..=11u64 {
         let writes = [n];
         let fails = Fails {
             reads: &[],
