@@ -1,4 +1,6 @@
 // Standard output as a sink.
+ghost use Rattle.std.specs.Prelude.{◌≡◌};
+
 use edge_traits::{Sink, SinkWrite};
 use std::alloc::Global;
 use std::io::Write;
@@ -11,7 +13,9 @@ pub struct StdoutSink<W: Write + Drop> {
 }
 
 impl<W: Write + Drop> StdoutSink<W> {
-    pub fn new(writer: W) -> StdoutSink<W> {
+    pub fn new(writer: W) -> StdoutSink<W>
+        ensures { result.faults ≡ 0 }
+    {
         StdoutSink { writer, faults: 0 }
     }
 }

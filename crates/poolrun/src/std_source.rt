@@ -1,5 +1,5 @@
 // Standard input as a source.
-ghost use Rattle.std.specs.Prelude.{◌≤◌, length, IfOk};
+ghost use Rattle.std.specs.Prelude.{◌≡◌, ◌≤◌, length, IfOk};
 
 use edge_traits::{Source, SourceRead};
 use std::io;
@@ -13,7 +13,9 @@ pub struct StdinSource<R: Read + Drop> {
 }
 
 impl<R: Read + Drop> StdinSource<R> {
-    pub fn new(reader: R) -> StdinSource<R> {
+    pub fn new(reader: R) -> StdinSource<R>
+        ensures { result.faults ≡ 0 }
+    {
         StdinSource { reader, faults: 0 }
     }
 }
