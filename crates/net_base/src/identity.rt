@@ -10,6 +10,19 @@ use std::alloc::Global;
 /// A list of names.
 pub type Names = Listed<Octets>;
 
+/// A list of addresses: each an IPv6 address, or an IPv4 one mapped into it (RFC 4291, section 2.5.5.2).
+pub type Addresses = Listed<[u8; 16]>;
+
+impl PlainValue for [u8; 16] {
+    fn copy(&self, _alloc: Global) -> Result<[u8; 16], NoMem> {
+        Ok(*self)
+    }
+
+    fn same(&self, other: &[u8; 16]) -> bool {
+        *self == *other
+    }
+}
+
 /// What a dial reports of the other side: the names that it is the authority for, whether the connection is
 /// secured, the protocol, and the address that was dialed (an IPv6 address, or an IPv4 one mapped into it).
 #[derive(Debug, Drop)]

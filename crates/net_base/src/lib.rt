@@ -5,6 +5,7 @@
 //! the port of an origin as RFC 9110, sections 4.2.3 and 7.2, have it in a `Host` field.
 #![tactic(auto)]
 
+mod end_cause;
 mod field;
 mod identity;
 mod list;
@@ -18,11 +19,12 @@ mod response;
 mod target;
 mod value;
 
+pub use end_cause::EndCause;
 pub use field::{Field, Fields};
-pub use identity::{Identity, Names};
+pub use identity::{Addresses, Identity, Names};
 pub use list::Listed;
 pub use memory::NoMem;
-pub use numbers::{CallerNo, ConnNo, ExchangeNo, Moment, StreamNo};
+pub use numbers::{CallerNo, ConnNo, ExchangeNo, Moment, StreamList, StreamNo};
 pub use octets::Octets;
 pub use origin::{Origin, Scheme, authority};
 pub use peer::{ActKind, Answer, AnswerBody, Answers, Peer, PeerAct, PeerActs, PeerBook};

@@ -1,5 +1,6 @@
 // Numbers that must not be mixed.
 
+use crate::list::Listed;
 use crate::memory::NoMem;
 use crate::value::PlainValue;
 use std::alloc::Global;
@@ -15,6 +16,9 @@ pub struct ConnNo(pub u32);
 /// The number of a stream on its connection, counted from 1.
 #[derive(Clone, Copy, Debug, PartialEq, Eq)]
 pub struct StreamNo(pub u32);
+
+/// A list of streams.
+pub type StreamList = Listed<StreamNo>;
 
 /// The number of a caller of the pool: a channel from 1 on, a worker from 101 on, 999 for the shutdown. 0 is the pool itself.
 #[derive(Clone, Copy, Debug, PartialEq, Eq)]
