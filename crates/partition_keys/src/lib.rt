@@ -1,0 +1,14 @@
+//! The keys by which a pool keeps sites apart: a site, a partition key (Fetch Standard, network partition keys), the
+//! group of connections that exchanges of one key, one credentials mode, one origin and one target share, and the
+//! alternative services of an origin (RFC 7838).
+#![tactic(auto)]
+
+mod alternative;
+mod group;
+mod key;
+mod site;
+
+pub use alternative::{AltUpdate, Alternative, Alternatives, Proof, Why};
+pub use group::{AltKey, CoalesceKey, GroupKey};
+pub use key::PartitionKey;
+pub use site::Site;
