@@ -1,4 +1,8 @@
 // What a connection's other side has shown of itself.
+ghost use Rattle.std.specs.Prelude.{◌≡◌, ◌↔◌, ◌<◌, ◌≤◌, length, take, map, All, IsTrue, IfOk, IfErr, OnOk, MatchOption};
+ghost use Rattle.std.specs.Str.{str_to_ascii_lowercase};
+ghost use Rattle.net_base.specs.Identities as spec;
+ghost use Rattle.net_base.specs.Identities.{IsName, IsPlainName, IsFirstBadName, AreNames, RefusesNames, identity_of};
 
 use crate::list::Listed;
 use crate::memory::NoMem;
@@ -49,4 +53,115 @@ impl PlainValue for Identity {
             && self.proto == other.proto
             && self.address == other.address
     }
+}
+
+/// Why no identity was built.
+#[derive(Clone, Copy, Debug, PartialEq, Eq)]
+pub enum IdentityFault {
+    /// There was no memory.
+    NoMem,
+    /// There are so many names, and more than 100.
+    TooManyNames(u64),
+    /// The name at this place, counted from 0, is no host: without a leading `*.` it is empty or is `-`, or it has an
+    /// octet other than ASCII letters, digits, `-`, `.`, `_`, `:`, `[` and `]`.
+    BadName(u64),
+}
+
+impl From<NoMem> for IdentityFault {
+    ghost use Rattle.std.specs.Prelude.{◌≡◌};
+    ghost use Rattle.net_base.specs.declared.identity.IdentityFault.TheVariants as fault;
+
+    ghost from_gives = { λ _ e. e ≡ fault.NoMem };
+
+    fn from(_: NoMem) -> IdentityFault {
+        IdentityFault::NoMem
+    }
+}
+
+impl Identity {
+    /// The identity with these names, which are kept in lower case. A leading `*.` is a wildcard (RFC 9525, section 6.3).
+    ///
+    /// `TooManyNames` where there are more than 100, `BadName` at the first name that is no host, in this order.
+    pub fn build(
+        alloc: Global,
+        names: Names,
+        secure: bool,
+        proto: Proto,
+        address: [u8; 16],
+    ) -> Result<Identity, IdentityFault>
+        ensures ok { IfOk result (λ id. id ≡ identity_of names secure proto address) }
+        ensures names { OnOk result (AreNames names) }
+        ensures refused { IfErr result (RefusesNames names) }
+    {
+        check_names(&names)?;
+        let names = lowered_names(alloc, &names)?;
+        Ok(Identity {
+            names,
+            secure,
+            proto,
+            address,
+        })
+    }
+}
+
+fn check_names(names: &Names) -> Result<(), IdentityFault>
+    ensures ok { OnOk result (AreNames names.now) }
+    ensures refused { IfErr result (RefusesNames names.now) }
+{
+    if names.len() > 100 {
+        return Err(IdentityFault::TooManyNames(names.len() as u64));
+    }
+    match first_bad_name(names.as_slice()) {
+        None => Ok(()),
+        Some(i) => Err(IdentityFault::BadName(i as u64)),
+    }
+}
+
+fn first_bad_name(names: &[Octets]) -> Option<usize>
+    ensures { MatchOption result (All IsName names.now) (IsFirstBadName names.now) }
+{
+    for (i, name) in names.iter().enumerate() {
+        if !is_name(name.as_slice()) {
+            return Some(i);
+        }
+    }
+    None
+}
+
+fn is_name(name: &[u8]) -> bool
+    ensures { IsTrue result ↔ IsName name.now }
+{
+    match name.strip_prefix(b"*.") {
+        Some(rest) => is_plain_name(rest),
+        None => is_plain_name(name),
+    }
+}
+
+fn is_plain_name(name: &[u8]) -> bool
+    ensures { IsTrue result ↔ IsPlainName name.now }
+{
+    !name.is_empty() && name != b"-".as_slice() && name.iter().all(|c| is_name_octet(*c))
+}
+
+fn is_name_octet(c: u8) -> bool
+    ensures { result ≡ spec.is_name_octet c }
+{
+    c.is_ascii_alphanumeric() || b"-._:[]".contains(&c)
+}
+
+fn lowered_names(alloc: Global, names: &Names) -> Result<Names, NoMem>
+    ensures { IfOk result (λ it. it ≡ map str_to_ascii_lowercase names.now) }
+{
+    let mut all = Names::new();
+    for name in names.as_slice() {
+        all.push(alloc, lowered(alloc, name.as_slice())?)?;
+    }
+    Ok(all)
+}
+
+fn lowered(alloc: Global, name: &[u8]) -> Result<Octets, NoMem>
+    ensures { IfOk result (λ it. it ≡ str_to_ascii_lowercase name.now) }
+{
+    let bytes: Vec<u8> = name.iter().map(|c| c.to_ascii_lowercase()).collect(alloc)?;
+    Octets::build(alloc, bytes.as_slice())
 }

@@ -2,14 +2,18 @@
 //! requests and responses, and the book of scripted peers. Each can be copied whole, and contracts see lists as lists.
 //!
 //! `Request::build` reads a URL by the URL Standard into a request of RFC 9110, and `authority` writes the host and
-//! the port of an origin as RFC 9110, sections 4.2.3 and 7.2, have it in a `Host` field.
+//! the port of an origin as RFC 9110, sections 4.2.3 and 7.2, have it in a `Host` field. `Identity::build` takes names as
+//! RFC 9525 has them, and `dressed` adds the field of RFC 7838 by which a request says that it goes to an alternative
+//! service.
 #![tactic(auto)]
 
+mod dressing;
 mod end_cause;
 mod field;
 mod identity;
 mod list;
 mod memory;
+mod method;
 mod numbers;
 mod octets;
 mod origin;
@@ -19,11 +23,13 @@ mod response;
 mod target;
 mod value;
 
+pub use dressing::dressed;
 pub use end_cause::EndCause;
 pub use field::{Field, Fields};
-pub use identity::{Addresses, Identity, Names};
+pub use identity::{Addresses, Identity, IdentityFault, Names};
 pub use list::Listed;
 pub use memory::NoMem;
+pub use method::is_idempotent;
 pub use numbers::{CallerNo, ConnNo, ExchangeNo, Moment, StreamList, StreamNo};
 pub use octets::Octets;
 pub use origin::{Origin, Scheme, authority};

@@ -1,0 +1,40 @@
+-- What an identity may show, and how one is built.
+use Rattle.std.specs.Prelude.{◌≡◌, ◌≢◌, ◌⊎◌, ⊤, ℕ, ◌<◌, ◌≤◌, List, [], ◌++◌, Bool, ◌==◌, ◌||◌, length, take, map, slice_get, codes, All, Some}
+use Rattle.std.specs.Char.{is_ascii_alphanumeric}
+use Rattle.std.specs.List.{list_any, AllPass}
+use Rattle.std.specs.Str.{str_to_ascii_lowercase}
+use Rattle.net_base.specs.declared.identity.Identity.{Identity}
+use Rattle.net_base.specs.declared.identity.IdentityFault.{IdentityFault}
+use Rattle.net_base.specs.declared.identity.IdentityFault.TheVariants.{NoMem, TooManyNames, BadName}
+use Rattle.net_base.specs.declared.target.Proto.{Proto}
+
+-- an octet of a host: an ASCII letter or digit, or one of `-`, `.`, `_`, `:`, `[` and `]`
+abbrev pub is_name_octet : ℕ → Bool
+is_name_octet c = is_ascii_alphanumeric c || list_any (λ mark. mark == c) (codes "-._:[]")
+
+-- a host's name or address: at least one of these octets, and not `-` alone
+abbrev pub IsPlainName : List ℕ → Type 0
+IsPlainName name = (name ≢ []) × (name ≢ codes "-") × AllPass is_name_octet name
+
+-- RFC 9525, section 6.3: a name, before which `*.` may stand as a wildcard
+abbrev pub IsName : List ℕ → Type 0
+IsName name = IsPlainName name ⊎ ((rest : List ℕ) × (name ≡ codes "*." ++ rest) × IsPlainName rest)
+
+-- the name at i is none, and each before it is one
+abbrev pub IsFirstBadName : List (List ℕ) → ℕ → Type 0
+IsFirstBadName names i = ((name : List ℕ) × (slice_get names i ≡ Some name) × ¬ (IsName name)) × All IsName (take i names)
+
+-- at most 100 names
+abbrev pub AreNames : List (List ℕ) → Type 0
+AreNames names = (length names ≤ 100) × All IsName names
+
+-- why these names are refused; want of memory needs no cause
+abbrev pub RefusesNames : List (List ℕ) → IdentityFault → Type 0
+RefusesNames names NoMem = ⊤
+RefusesNames names (TooManyNames n) = (100 < n) × (n ≡ length names)
+RefusesNames names (BadName i) = (length names ≤ 100) × IsFirstBadName names i
+
+-- the identity of these, with the names in lower case
+abbrev pub identity_of : List (List ℕ) → Bool → Proto → List ℕ → Identity
+identity_of names secure proto address =
+    record { names = map str_to_ascii_lowercase names; secure = secure; proto = proto; address = address }
