@@ -1,11 +1,13 @@
 // Alternative services.
+ghost use Rattle.std.specs.Prelude.{◌≡◌};
+ghost use Rattle.partition_keys.specs.Freshness as spec;
 
 use net_base::{Listed, Moment, NoMem, Octets, PlainValue, Proto};
 use std::alloc::Global;
 
 /// An alternative service of an origin (RFC 7838, section 2): its protocol, host and port, how long it may be used
 /// (section 3.1, `ma` and `persist`), until when it counts as broken (section 2.4), and until when the origin has said
-/// that an `http` exchange may use it (RFC 8164, section 2).
+/// that an `http` exchange may use it (RFC 8164, section 2.3).
 #[derive(Debug, Drop)]
 pub struct Alternative {
     pub proto: Proto,
@@ -42,6 +44,14 @@ impl PlainValue for Alternative {
             && self.broken_until == other.broken_until
             && self.proven_until == other.proven_until
     }
+}
+
+/// Whether an alternative may be used at a moment: before it expires (RFC 7838, section 2.2), and not while it counts as
+/// broken (section 2.4).
+pub fn is_fresh(a: &Alternative, m: Moment) -> bool
+    ensures { result ≡ spec.is_fresh a.now m }
+{
+    m.0 < a.expires.0 && a.broken_until.0 <= m.0
 }
 
 /// What an Alt-Svc field or an ALTSVC frame says of an origin's alternatives (RFC 7838, sections 3 and 4).
