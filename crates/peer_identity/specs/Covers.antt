@@ -29,7 +29,7 @@ MatchesHost name host = IsSameInAnyCase name host ⊎ MatchesByLabel name host
 abbrev pub Covers : Identity → List ℕ → Type 0
 Covers id host = Any (λ name. MatchesHost name host) id.names
 
--- ---- the same as a test
+-- ---- the same as a test: the clauses `fact` and `test` of `covers` say that it agrees with `Covers`
 
 abbrev pub is_dot : ℕ → Bool
 is_dot c = c == 46
