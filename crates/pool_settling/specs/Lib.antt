@@ -1,0 +1,4 @@
+pub mod Counts
+pub mod Due
+pub mod Room
+pub mod Settling
