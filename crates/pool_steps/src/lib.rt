@@ -1,0 +1,9 @@
+//! The state that an entry of a pool's history leaves: what a call, a worker's entry and what the pool does by itself change
+//! of exchanges, connections, alternatives and addresses. `specs/After` has the definition, and `after_act` computes it.
+#![tactic(auto)]
+
+pub mod after;
+pub mod calls;
+pub mod exchanges;
+pub mod own;
+pub mod worked;
