@@ -2,7 +2,6 @@
 ghost use Rattle.std.specs.Prelude.{◌≡◌, ◌≤◌, length, take, map, IfOk, IfSome, MatchOption, All, Err};
 ghost use Rattle.httparse.specs.Grammar.{ResponseHead, status_code};
 ghost use Rattle.httparse.specs.Spans.{header_bytes, IsHeaderWithin, name_and_value};
-ghost use Rattle.http_header.specs.Token.{lowercase};
 ghost use Rattle.h1_frames.specs.Heads.{IsHead, IsNoHead, SaysHead, IsRead, lowered};
 ghost use Rattle.h1_frames.specs.declared.head.HeadFault.TheVariants.{Refused};
 
@@ -10,6 +9,7 @@ use crate::unit::head_unit;
 use httparse::Status;
 use httparse::spans::{EMPTY_HEADER_SPAN, HeaderSpan, parse_response};
 use net_base::{Field, Fields, Listed, NoMem, Octets};
+use plain_values::lower_case;
 use std::alloc::Global;
 
 /// The most octets of a unit that is judged.
@@ -131,18 +131,4 @@ fn field_at(alloc: Global, unit: &[u8], span: HeaderSpan) -> Result<Field, NoMem
     let name = lower_case(alloc, span.name.of(unit))?;
     let value = Octets::build(alloc, span.value.of(unit))?;
     Ok(Field { name, value })
-}
-
-/// A copy in lower case.
-fn lower_case(alloc: Global, name: &[u8]) -> Result<Octets, NoMem>
-    ensures { IfOk result (λ lower. lower ≡ lowercase name.now) }
-{
-    match name
-        .iter()
-        .map(|b| b.to_ascii_lowercase())
-        .collect::<Vec<u8>>(alloc)
-    {
-        Ok(bytes) => Octets::build(alloc, bytes.as_slice()),
-        Err(_) => Err(NoMem),
-    }
 }

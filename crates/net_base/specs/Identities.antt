@@ -1,24 +1,27 @@
 -- What an identity may show, and how one is built.
-use Rattle.std.specs.Prelude.{◌≡◌, ◌≢◌, ◌⊎◌, ⊤, ℕ, ◌<◌, ◌≤◌, List, [], ◌++◌, Bool, ◌==◌, ◌||◌, length, take, map, slice_get, codes, All, Some}
+use Rattle.std.specs.Prelude.{◌≡◌, ⊤, ℕ, ◌<◌, ◌≤◌, nat_lt, List, Bool, ◌==◌, ◌&&◌, ◌||◌, not, length, take, drop, map, slice_get, codes, bytes_eq, All, IsTrue, Some}
 use Rattle.std.specs.Char.{is_ascii_alphanumeric}
-use Rattle.std.specs.List.{list_any, AllPass}
+use Rattle.std.specs.List.{list_all, list_any}
 use Rattle.std.specs.Str.{str_to_ascii_lowercase}
 use Rattle.net_base.specs.declared.identity.Identity.{Identity}
 use Rattle.net_base.specs.declared.identity.IdentityFault.{IdentityFault}
 use Rattle.net_base.specs.declared.identity.IdentityFault.TheVariants.{NoMem, TooManyNames, BadName}
 use Rattle.net_base.specs.declared.target.Proto.{Proto}
 
--- an octet of a host: an ASCII letter or digit, or one of `-`, `.`, `_`, `:`, `[` and `]`
+-- an octet of a name, which is this project's own: an ASCII letter or digit, or one of `-`, `.`, `_`, `:`, `[` and `]`
 abbrev pub is_name_octet : ℕ → Bool
 is_name_octet c = is_ascii_alphanumeric c || list_any (λ mark. mark == c) (codes "-._:[]")
 
--- a host's name or address: at least one of these octets, and not `-` alone
-abbrev pub IsPlainName : List ℕ → Type 0
-IsPlainName name = (name ≢ []) × (name ≢ codes "-") × AllPass is_name_octet name
+-- a name or an address: at least one of these octets, and not `-` alone, which is written where there are no names
+abbrev pub is_plain_name : List ℕ → Bool
+is_plain_name name = nat_lt 0 (length name) && not (bytes_eq name (codes "-")) && list_all is_name_octet name
 
--- RFC 9525, section 6.3: a name, before which `*.` may stand as a wildcard
+-- RFC 9525, section 6.3, has wildcards for names of the DNS. Here `*.` may stand before any name, an address too
+abbrev pub is_name : List ℕ → Bool
+is_name name = is_plain_name name || (bytes_eq (take 2 name) (codes "*.") && is_plain_name (drop 2 name))
+
 abbrev pub IsName : List ℕ → Type 0
-IsName name = IsPlainName name ⊎ ((rest : List ℕ) × (name ≡ codes "*." ++ rest) × IsPlainName rest)
+IsName name = IsTrue (is_name name)
 
 -- the name at i is none, and each before it is one
 abbrev pub IsFirstBadName : List (List ℕ) → ℕ → Type 0

@@ -4,11 +4,9 @@ ghost use Rattle.net_base.specs.Dressing as spec;
 ghost use Rattle.net_base.specs.Dressing.{dressed_for};
 
 use crate::field::Field;
-use crate::memory::NoMem;
-use crate::octets::Octets;
 use crate::request::Request;
 use crate::target::{Target, Via};
-use crate::value::PlainValue;
+use plain_values::{NoMem, Octets, PlainValue};
 use std::alloc::Global;
 
 /// The request as it is sent on a connection to this target: where the target is an alternative service, the field

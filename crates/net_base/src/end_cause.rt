@@ -1,7 +1,6 @@
 // Why a connection ended.
 
-use crate::memory::NoMem;
-use crate::value::PlainValue;
+use plain_values::{NoMem, PlainValue};
 use std::alloc::Global;
 
 /// Why a connection ended.

@@ -1,9 +1,6 @@
 // Fields of a head or of trailers.
 
-use crate::list::Listed;
-use crate::memory::NoMem;
-use crate::octets::Octets;
-use crate::value::PlainValue;
+use plain_values::{Listed, NoMem, Octets, PlainValue};
 use std::alloc::Global;
 
 /// A field line: its name and its value (RFC 9110, section 5).

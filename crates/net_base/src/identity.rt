@@ -1,14 +1,12 @@
 // What a connection's other side has shown of itself.
-ghost use Rattle.std.specs.Prelude.{◌≡◌, ◌↔◌, ◌<◌, ◌≤◌, length, take, map, All, IsTrue, IfOk, IfErr, OnOk, MatchOption};
+ghost use Rattle.std.specs.Prelude.{◌≡◌, map, All, IfOk, IfErr, OnOk, MatchOption};
+ghost use Rattle.std.specs.List.{list_all};
 ghost use Rattle.std.specs.Str.{str_to_ascii_lowercase};
 ghost use Rattle.net_base.specs.Identities as spec;
-ghost use Rattle.net_base.specs.Identities.{IsName, IsPlainName, IsFirstBadName, AreNames, RefusesNames, identity_of};
+ghost use Rattle.net_base.specs.Identities.{IsName, IsFirstBadName, AreNames, RefusesNames, identity_of};
 
-use crate::list::Listed;
-use crate::memory::NoMem;
-use crate::octets::Octets;
 use crate::target::Proto;
-use crate::value::PlainValue;
+use plain_values::{Listed, NoMem, Octets, PlainValue, lower_case};
 use std::alloc::Global;
 
 /// A list of names.
@@ -16,16 +14,6 @@ pub type Names = Listed<Octets>;
 
 /// A list of addresses: each an IPv6 address, or an IPv4 one mapped into it (RFC 4291, section 2.5.5.2).
 pub type Addresses = Listed<[u8; 16]>;
-
-impl PlainValue for [u8; 16] {
-    fn copy(&self, _alloc: Global) -> Result<[u8; 16], NoMem> {
-        Ok(*self)
-    }
-
-    fn same(&self, other: &[u8; 16]) -> bool {
-        *self == *other
-    }
-}
 
 /// What a dial reports of the other side: the names that it is the authority for, whether the connection is
 /// secured, the protocol, and the address that was dialed (an IPv6 address, or an IPv4 one mapped into it).
@@ -128,19 +116,24 @@ fn first_bad_name(names: &[Octets]) -> Option<usize>
     None
 }
 
-fn is_name(name: &[u8]) -> bool
-    ensures { IsTrue result ↔ IsName name.now }
+/// Whether the name may stand in an identity: a host's name or address, before which `*.` may stand as a wildcard
+/// (RFC 9525, section 6.3).
+pub fn is_name(name: &[u8]) -> bool
+    ensures { result ≡ spec.is_name name.now }
 {
-    match name.strip_prefix(b"*.") {
-        Some(rest) => is_plain_name(rest),
-        None => is_plain_name(name),
-    }
+    is_plain_name(name) || (name.starts_with(b"*.") && is_plain_name(&name[2..]))
 }
 
 fn is_plain_name(name: &[u8]) -> bool
-    ensures { IsTrue result ↔ IsPlainName name.now }
+    ensures { result ≡ spec.is_plain_name name.now }
 {
-    !name.is_empty() && name != b"-".as_slice() && name.iter().all(|c| is_name_octet(*c))
+    !name.is_empty() && name != b"-".as_slice() && are_name_octets(name)
+}
+
+fn are_name_octets(name: &[u8]) -> bool
+    ensures { result ≡ list_all spec.is_name_octet name.now }
+{
+    name.iter().all(|c| is_name_octet(*c))
 }
 
 fn is_name_octet(c: u8) -> bool
@@ -154,14 +147,7 @@ fn lowered_names(alloc: Global, names: &Names) -> Result<Names, NoMem>
 {
     let mut all = Names::new();
     for name in names.as_slice() {
-        all.push(alloc, lowered(alloc, name.as_slice())?)?;
+        all.push(alloc, lower_case(alloc, name.as_slice())?)?;
     }
     Ok(all)
-}
-
-fn lowered(alloc: Global, name: &[u8]) -> Result<Octets, NoMem>
-    ensures { IfOk result (λ it. it ≡ str_to_ascii_lowercase name.now) }
-{
-    let bytes: Vec<u8> = name.iter().map(|c| c.to_ascii_lowercase()).collect(alloc)?;
-    Octets::build(alloc, bytes.as_slice())
 }

@@ -2,42 +2,37 @@
 //! requests and responses, and the book of scripted peers. Each can be copied whole, and contracts see lists as lists.
 //!
 //! `Request::build` reads a URL by the URL Standard into a request of RFC 9110, and `authority` writes the host and
-//! the port of an origin as RFC 9110, sections 4.2.3 and 7.2, have it in a `Host` field. `Identity::build` takes names as
-//! RFC 9525 has them, and `dressed` adds the field of RFC 7838 by which a request says that it goes to an alternative
+//! the port of an origin as RFC 9110, sections 4.2.3 and 7.2, have it in a `Host` field. `Identity::build` takes names and
+//! wildcards (RFC 9525), and `dressed` adds the field of RFC 7838 by which a request says that it goes to an alternative
 //! service.
 #![tactic(auto)]
 
 mod dressing;
 mod end_cause;
 mod field;
+mod host;
 mod identity;
-mod list;
-mod memory;
 mod method;
 mod numbers;
-mod octets;
 mod origin;
 mod peer;
 mod request;
 mod response;
 mod target;
-mod value;
 
 pub use dressing::dressed;
 pub use end_cause::EndCause;
 pub use field::{Field, Fields};
-pub use identity::{Addresses, Identity, IdentityFault, Names};
-pub use list::Listed;
-pub use memory::NoMem;
+pub use host::is_plain_host;
+pub use identity::{Addresses, Identity, IdentityFault, Names, is_name};
 pub use method::is_idempotent;
 pub use numbers::{CallerNo, ConnNo, ExchangeNo, Moment, StreamList, StreamNo};
-pub use octets::Octets;
 pub use origin::{Origin, Scheme, authority};
 pub use peer::{ActKind, Answer, AnswerBody, Answers, Peer, PeerAct, PeerActs, PeerBook};
-pub use request::{BuildFault, Request};
+pub use plain_values::{Listed, NoMem, Octets, PlainValue};
+pub use request::{BuildFault, Request, is_field};
 pub use response::Response;
 pub use target::{Proto, Target, Via};
-pub use value::PlainValue;
 
 #[cfg(test)]
 mod tests;

@@ -1,8 +1,6 @@
 // Numbers that must not be mixed.
 
-use crate::list::Listed;
-use crate::memory::NoMem;
-use crate::value::PlainValue;
+use plain_values::{Listed, NoMem, PlainValue};
 use std::alloc::Global;
 
 /// The number of an exchange, counted from 1 in the order of submission.

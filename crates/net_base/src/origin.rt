@@ -2,9 +2,7 @@
 ghost use Rattle.std.specs.Prelude.{◌≡◌, IfOk};
 ghost use Rattle.net_base.specs.Origins.{authority_text, default_port_of};
 
-use crate::memory::NoMem;
-use crate::octets::Octets;
-use crate::value::PlainValue;
+use plain_values::{NoMem, Octets, PlainValue};
 use std::alloc::Global;
 
 /// A scheme of the web.

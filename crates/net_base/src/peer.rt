@@ -2,12 +2,9 @@
 
 use crate::field::Fields;
 use crate::identity::Names;
-use crate::list::Listed;
-use crate::memory::NoMem;
 use crate::numbers::{ConnNo, StreamNo};
-use crate::octets::Octets;
 use crate::target::Proto;
-use crate::value::PlainValue;
+use plain_values::{Listed, NoMem, Octets, PlainValue};
 use std::alloc::Global;
 
 /// A scripted peer: where it is reached, what it shows of itself, what it answers and how it misbehaves.

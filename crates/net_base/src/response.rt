@@ -1,9 +1,7 @@
 // A final response.
 
 use crate::field::Fields;
-use crate::memory::NoMem;
-use crate::octets::Octets;
-use crate::value::PlainValue;
+use plain_values::{NoMem, Octets, PlainValue};
 use std::alloc::Global;
 
 /// A final response (RFC 9110, section 15): its status, its fields with names in lower case, its whole body as it

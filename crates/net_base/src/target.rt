@@ -1,8 +1,6 @@
 // Where a connection leads.
 
-use crate::memory::NoMem;
-use crate::octets::Octets;
-use crate::value::PlainValue;
+use plain_values::{NoMem, Octets, PlainValue};
 use std::alloc::Global;
 
 /// The protocol that is spoken on a connection: HTTP/1.1 (RFC 9112) or HTTP/2 (RFC 9113).

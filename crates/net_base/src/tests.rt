@@ -47,19 +47,150 @@ fn urls_are_read_as_requests(rt: HostRuntime) -> Result<(), Fail> {
     Ok(())
 }
 
+/// Adds a field as often as given.
+fn add(
+    alloc: Global,
+    all: &mut Fields,
+    name: &[u8],
+    value: &[u8],
+    times: usize,
+) -> Result<(), NoMem> {
+    for _ in 0..times {
+        let name = Octets::build(alloc, name)?;
+        let value = Octets::build(alloc, value)?;
+        all.push(alloc, Field { name, value })?;
+    }
+    Ok(())
+}
+
+fn octets(alloc: Global, n: usize) -> Result<Octets, NoMem> {
+    let bytes = vec![in alloc; b'x'; n]?;
+    Octets::build(alloc, bytes.as_slice())
+}
+
+/// A method, a URL, the name of a field and how often it is given, how many octets the body has, and why this is refused.
+#[derive(Clone, Copy)]
+struct Refused(
+    &'static [u8],
+    &'static str,
+    &'static [u8],
+    usize,
+    usize,
+    BuildFault,
+);
+
+fn fault(
+    alloc: Global,
+    method: &[u8],
+    url: &str,
+    list: Fields,
+    size: usize,
+) -> Result<Option<BuildFault>, NoMem> {
+    let body = octets(alloc, size)?;
+    match Request::build(alloc, method, url, list, body) {
+        Ok(_) => Ok(None),
+        Err(e) => Ok(Some(e)),
+    }
+}
+
 #[test]
-fn what_is_no_url_of_the_web_is_refused(rt: HostRuntime) {
+fn what_does_not_fit_is_refused_by_the_first_fault(rt: HostRuntime) -> Result<(), Fail> {
     let alloc = rt.alloc();
-    let bad = match get(alloc, "http://") {
-        Ok(_) => None,
-        Err(e) => Some(e),
-    };
-    assert_eq!(rt; bad, Some(BuildFault::BadUrl));
-    let other = match get(alloc, "ftp://a/") {
-        Ok(_) => None,
-        Err(e) => Some(e),
-    };
-    assert_eq!(rt; other, Some(BuildFault::BadScheme));
+    let table = [
+        Refused(b"G ET", "http://", b"", 101, 0, BuildFault::BadMethod),
+        Refused(b"", "http://", b"", 101, 0, BuildFault::BadMethod),
+        Refused(
+            b"track",
+            "http://",
+            b"",
+            101,
+            0,
+            BuildFault::ForbiddenMethod,
+        ),
+        Refused(b"GET", "http://", b"", 101, 0, BuildFault::BadUrl),
+        Refused(b"GET", "ftp://a/", b"", 101, 0, BuildFault::BadScheme),
+        Refused(
+            b"GET",
+            "http://a/",
+            b"",
+            101,
+            0,
+            BuildFault::TooManyFields(101),
+        ),
+        Refused(
+            b"GET",
+            "http://a/",
+            b"a b",
+            1,
+            1048577,
+            BuildFault::BadField(0),
+        ),
+        Refused(
+            b"GET",
+            "http://a/",
+            b"Host",
+            1,
+            1048577,
+            BuildFault::ForbiddenField(0),
+        ),
+        Refused(
+            b"GET",
+            "http://a/",
+            b"a",
+            1,
+            1048577,
+            BuildFault::BodyTooLarge(1048577),
+        ),
+    ];
+    for Refused(method, url, name, times, size, expected) in table {
+        let mut list = Fields::new();
+        add(alloc, &mut list, name, b"", times)?;
+        let found = fault(alloc, method, url, list, size)?;
+        assert_eq!(rt; found, Some(expected));
+    }
+    Ok(())
+}
+
+#[test]
+fn a_bad_field_behind_a_forbidden_one_is_told_first(rt: HostRuntime) -> Result<(), Fail> {
+    let alloc = rt.alloc();
+    let mut list = Fields::new();
+    add(alloc, &mut list, b"TE", b"x", 1)?;
+    add(alloc, &mut list, b"a", b"x ", 2)?;
+    let found = fault(alloc, b"GET", "http://a/", list, 0)?;
+    assert_eq!(rt; found, Some(BuildFault::BadField(1)));
+    Ok(())
+}
+
+#[test]
+fn a_post_keeps_its_method_its_fields_in_lower_case_and_its_body(
+    rt: HostRuntime,
+) -> Result<(), Fail> {
+    let alloc = rt.alloc();
+    let mut list = Fields::new();
+    add(alloc, &mut list, b"X-A", b"1\t2", 1)?;
+    let body = octets(alloc, 1048576)?;
+    let request = Request::build(alloc, b"POST", "https://a.test/", list, body)?;
+    assert_eq!(rt; request.method.as_slice(), b"POST".as_slice());
+    assert_eq!(rt; request.body.len(), 1048576);
+    assert_eq!(rt; request.fields.len(), 1);
+    for field in request.fields.as_slice() {
+        assert_eq!(rt; field.name.as_slice(), b"x-a".as_slice());
+        assert_eq!(rt; field.value.as_slice(), b"1\t2".as_slice());
+    }
+    Ok(())
+}
+
+#[test]
+fn hosts_are_plain_as_the_url_standard_writes_them(rt: HostRuntime) -> Result<(), Fail> {
+    let alloc = rt.alloc();
+    for host in ["a.test", "[::1]", "127.0.0.1"] {
+        assert!(rt; is_plain_host(alloc, host)?, "{host}");
+    }
+    for host in ["", "A.test", "a.test:80", "127.1", "u@a.test"] {
+        assert!(rt; !is_plain_host(alloc, host)?, "{host}");
+    }
+    Ok(())
 }
 
 fn peer(alloc: Global) -> Result<Peer, NoMem> {

@@ -1,15 +1,12 @@
 // Sites, and how they are read and written.
-ghost use Rattle.std.specs.Prelude.{◌≡◌, ◌≢◌, ◌↔◌, ℕ, ◌<◌, ◌^◌, List, ◌++◌, IsTrue, IfOk, IfErr, MatchOption, MatchResult, option_map};
+ghost use Rattle.std.specs.Prelude.{◌≡◌, ◌≢◌, ◌↔◌, ℕ, ◌<◌, ◌^◌, List, ◌++◌, IsTrue, IfOk, IfErr, MatchOption, MatchResult, None, Some, IsUtf8, ◌⊎◌};
 ghost use Rattle.std.specs.Fmt.{decimal};
-ghost use Rattle.url.specs.Host.{host_text};
-ghost use Rattle.url.specs.Parts.{nonempty_host};
 ghost use Rattle.net_base.specs.Origins.{scheme_text};
 ghost use Rattle.partition_keys.specs.Sites as spec;
-ghost use Rattle.partition_keys.specs.Sites.{IsSiteHost, IsSiteText, HasHost, RefusesSite};
+ghost use Rattle.partition_keys.specs.Sites.{IsSiteHost, IsSiteText, RefusesSite, site_of};
 
-use net_base::{NoMem, Octets, PlainValue, Scheme};
+use net_base::{NoMem, Octets, PlainValue, Scheme, is_plain_host};
 use std::alloc::Global;
-use url::{ParseError, Url};
 
 /// A site (HTML Standard, section 7.1.1): a scheme with a host, which the caller has cut to its registrable domain,
 /// or an opaque one with a number of its own.
@@ -67,6 +64,17 @@ pub fn read_site(alloc: Global, text: &[u8]) -> Result<Site, SiteFault>
 
     // Each site is read from its one text.
     ensures back { (s : Site) → IsSiteText text.now s → MatchResult result (λ t. t ≡ s) (λ e. e ≡ SiteFault.NoMem) }
+
+    // Of a text in UTF-8 the site can be computed.
+    ensures computes { IsUtf8 text.now → MatchResult result (λ s. site_of text.now ≡ Some s) (λ e. (e ≡ SiteFault.NoMem) ⊎ (site_of text.now ≡ None)) }
+{
+    site_in(alloc, text)
+}
+
+/// The site whose text this is, or why it is none's.
+fn site_in(alloc: Global, text: &[u8]) -> Result<Site, SiteFault>
+    ensures ok { IfOk result (IsSiteText text.now) }
+    ensures refused { IfErr result (RefusesSite text.now) }
 {
     if let Some(host) = behind(text, b"http://") {
         return or_bad(tuple_site(alloc, Scheme::Http, host)?, 7);
@@ -110,29 +118,8 @@ fn is_site_host(alloc: Global, host: &[u8]) -> Result<bool, NoMem>
     ensures { IfOk result (λ is. IsTrue is ↔ IsSiteHost host.now) }
 {
     match std::str::from_utf8(host) {
-        Ok(host) => is_host(alloc, host),
+        Ok(host) => is_plain_host(alloc, host),
         Err(_) => Ok(false),
-    }
-}
-
-fn is_host(alloc: Global, host: &str) -> Result<bool, NoMem>
-    ensures { IfOk result (λ is. IsTrue is ↔ HasHost host.now) }
-{
-    let text = format!(in alloc; "http://{host}")?;
-    match Url::parse(alloc, text.as_str()) {
-        Ok(url) => Ok(is_host_of(&url, host)),
-        Err(ParseError::OutOfMemory) => Err(NoMem),
-        Err(ParseError::Overflow) => Err(NoMem),
-        Err(_) => Ok(false),
-    }
-}
-
-fn is_host_of(url: &Url, host: &str) -> bool
-    ensures { IsTrue result ↔ (option_map host_text (nonempty_host url.now) ≡ Some host.now) }
-{
-    match url.host_str() {
-        Some(text) => text == host,
-        None => false,
     }
 }
 

@@ -14,7 +14,7 @@ returns-then-not-is_name c =
       (
         name,
         slice_get_read names (length names) c.loop-i.i name refl within c.index-names-i.is,
-        λ is. let told : c.is_name.result ≡ true = c.is_name.ensures.1 (subst IsName (sym c.as_slice.ensures) is) in
+        λ is. let told : c.is_name.result ≡ true = c.is_name.ensures ∙ subst IsName (sym c.as_slice.ensures) is in
             let other : c.is_name.result ≡ false = c.if-not-is_name.true in cc,
       ),
       c.loop-i.invariant,
@@ -24,7 +24,7 @@ pub loop-i-preserved : goal.loop-i-preserved
 loop-i-preserved c =
     let names = c.args.names.now in
     let name : List ℕ = c.index-names-i.result in
-    let is : IsName c.as_slice.result.now = c.is_name.ensures.0 c.if-not-is_name.false in
+    let is : IsName c.as_slice.result.now = sym c.is_name.ensures ∙ c.if-not-is_name.false in
     let read = c.as_slice.ensures ∙ c.index-names-i.is in
     All-more IsName names c.loop-i.i name c.loop-i-test.true c.loop-i.invariant (subst IsName read is)
 

@@ -1,32 +1,8 @@
-use Rattle.std.proofs.Common.{refl, inl, inr, subst, List, ℕ, codes}
-use Rattle.net_base.specs.declared.origin.Scheme.TheVariants.{Http, Https}
-use Rattle.partition_keys.specs.Sites.{IsSiteText}
-use Rattle.partition_keys.proofs.SiteLemmas.{refuses, tuple_bad, opaque_bad, opaque_back}
+use Rattle.partition_keys.proofs.SiteLemmas.{reads_back, computes}
 use Rattle.partition_keys.proofs.site.read_site.Goals as goal
 
-pub returns-in-Some-clause-refused : goal.returns-in-Some-clause-refused
-returns-in-Some-clause-refused c =
-    let host = c.in-Some.host.now in
-    let site = c.in_ok-tuple_site.field-0 in
-    refuses c.args.text.now (codes "http://") host (inl refl) c.in-Some.ensures site c.or_bad.result c.or_bad.ensures
-    (tuple_bad Http host site c.in_ok-tuple_site.ensures)
+pub returns-clause-back : goal.returns-clause-back
+returns-clause-back c = reads_back c.args.text.now c.site_in.result c.site_in.ensures.ok c.site_in.ensures.refused
 
-pub returns-in-Some-behind-clause-refused : goal.returns-in-Some-behind-clause-refused
-returns-in-Some-behind-clause-refused c =
-    let host = c.in-Some-behind.host.now in
-    let site = c.in_ok-tuple_site-2.field-0 in
-    refuses c.args.text.now (codes "https://") host (inr (inl refl)) c.in-Some-behind.ensures site c.or_bad-in-Some-behind.result c.or_bad-in-Some-behind.ensures
-    (tuple_bad Https host site c.in_ok-tuple_site-2.ensures)
-
-pub returns-in-Some-behind-2-clause-refused : goal.returns-in-Some-behind-2-clause-refused
-returns-in-Some-behind-2-clause-refused c =
-    let digits = c.in-Some-behind-2.digits.now in
-    let site = c.in_ok-opaque_site.field-0 in
-    refuses c.args.text.now (codes "opaque:") digits (inr (inr refl)) c.in-Some-behind-2.ensures site c.or_bad-in-Some-behind-2.result c.or_bad-in-Some-behind-2.ensures
-    (opaque_bad digits site c.in_ok-opaque_site.ensures)
-
-pub returns-in-Some-behind-2-clause-back : goal.returns-in-Some-behind-2-clause-back
-returns-in-Some-behind-2-clause-back c s is =
-    let digits = c.in-Some-behind-2.digits.now in
-    opaque_back digits c.in_ok-opaque_site.field-0 c.or_bad-in-Some-behind-2.result c.in_ok-opaque_site.ensures c.or_bad-in-Some-behind-2.ensures s
-    (subst (λ (t : List ℕ). IsSiteText t s) c.in-Some-behind-2.ensures is)
+pub returns-clause-computes : goal.returns-clause-computes
+returns-clause-computes c = computes c.args.text.now c.site_in.result c.site_in.ensures.ok c.site_in.ensures.refused

@@ -1,5 +1,5 @@
 use Rattle.std.proofs.Common.{◌≡◌, take}
-use Rattle.net_base.proofs.list.ListedPlainValue.same.Given as goal
+use Rattle.plain_values.proofs.list.ListedPlainValue.same.Given as goal
 
 abbrev pub invariant-loop-i : goal.invariant-loop-i
 invariant-loop-i g l = take l.i l.mine ≡ take l.i l.others

@@ -1,6 +1,7 @@
 // Octets, which contracts see as a list of numbers.
 ghost use Rattle.std.specs.Prelude.{◌≡◌, [], ◌∷◌, ◌++◌, ◌<◌, length, slice_get, IfOk, OnOk, OnErr, OnSome};
 ghost use Rattle.std.specs.Option.{option_copied};
+ghost use Rattle.std.specs.Str.{str_to_ascii_lowercase};
 
 use crate::memory::NoMem;
 use crate::value::PlainValue;
@@ -16,7 +17,7 @@ pub struct Octets {
 impl Model for Octets {
     ghost use Rattle.std.specs.Prelude.{List, ℕ};
     ghost use Rattle.std.specs.Coded.{coded_list, coded_ℕ};
-    ghost use Rattle.net_base.specs.Lists.{items_of};
+    ghost use Rattle.plain_values.specs.Lists.{items_of};
 
     ghost Value = { List ℕ };
 
@@ -105,4 +106,12 @@ impl PlainValue for Octets {
     fn same(&self, other: &Octets) -> bool {
         self.as_slice() == other.as_slice()
     }
+}
+
+/// The octets with ASCII letters in lower case.
+pub fn lower_case(alloc: Global, text: &[u8]) -> Result<Octets, NoMem>
+    ensures { IfOk result (λ it. it ≡ str_to_ascii_lowercase text.now) }
+{
+    let bytes: Vec<u8> = text.iter().map(|b| b.to_ascii_lowercase()).collect(alloc)?;
+    Octets::build(alloc, bytes.as_slice())
 }

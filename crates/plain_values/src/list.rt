@@ -16,7 +16,7 @@ pub struct Listed<T> {
 impl<T> Model for Listed<T> {
     ghost use Rattle.std.specs.Prelude.{List};
     ghost use Rattle.std.specs.Coded.{coded_list};
-    ghost use Rattle.net_base.specs.Lists.{items_of};
+    ghost use Rattle.plain_values.specs.Lists.{items_of};
 
     ghost Value = { List T };
 

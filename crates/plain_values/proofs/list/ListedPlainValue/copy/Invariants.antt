@@ -1,5 +1,5 @@
 use Rattle.std.proofs.Common.{◌≡◌, take}
-use Rattle.net_base.proofs.list.ListedPlainValue.copy.Given as goal
+use Rattle.plain_values.proofs.list.ListedPlainValue.copy.Given as goal
 
 abbrev pub invariant-loop-item : goal.invariant-loop-item
 invariant-loop-item g l = l.all ≡ take l.item-index l.self

@@ -25,6 +25,16 @@ impl PlainValue for u64 {
     }
 }
 
+impl PlainValue for [u8; 16] {
+    fn copy(&self, _alloc: Global) -> Result<[u8; 16], NoMem> {
+        Ok(*self)
+    }
+
+    fn same(&self, other: &[u8; 16]) -> bool {
+        *self == *other
+    }
+}
+
 impl<T: PlainValue> PlainValue for Option<T> {
     fn copy(&self, alloc: Global) -> Result<Option<T>, NoMem> {
         match self {
