@@ -2,8 +2,8 @@
 ghost use Rattle.std.specs.Prelude.{◌≡◌, ◌↔◌, ◌≤◌, ◌<◌, ◌+◌, ◌^◌, IsTrue, IfOk, MatchOption, length};
 ghost use Rattle.std.specs.Bool.{OnTrue};
 ghost use Rattle.pool_steps.specs.After as after;
-ghost use Rattle.pool_settling.specs.Due.{due_of};
 ghost use Rattle.pool_rules.specs.Histories as spec;
+ghost use Rattle.pool_settling.specs.Settling.{IsSettled};
 
 use net_base::{Moment, NoMem};
 use pool_rules::legal::noted;
@@ -13,7 +13,7 @@ use pool_values::{AbstractPool, Config, Entry, History, Rows};
 use std::alloc::Global;
 
 /// The pool before its first entry.
-fn open_pool(alloc: Global, config: &Config) -> AbstractPool
+pub fn open_pool(alloc: Global, config: &Config) -> AbstractPool
     ensures { result ≡ spec.opening config.now }
 {
     AbstractPool {
@@ -29,8 +29,8 @@ fn open_pool(alloc: Global, config: &Config) -> AbstractPool
     }
 }
 
-/// Whether the pool's numbers still fit.
-fn has_room_for_more(s: &AbstractPool) -> bool
+/// Whether the pool's numbers still fit: one more connection has a number of 32 bits, and one more entry one of 64.
+pub fn has_room_for_more(s: &AbstractPool) -> bool
     ensures { IsTrue result ↔ ((length s.now.connections ≤ 4294967294) × (s.now.entries + 1 < 2 ^ 64)) }
 {
     s.connections.len() as u64 <= 4294967294 && s.entries < u64::MAX
@@ -52,9 +52,9 @@ fn step(alloc: Global, s: &mut AbstractPool, e: &Entry) -> Result<bool, NoMem>
     Ok(stands)
 }
 
-/// Whether nothing is due at the end.
+/// Whether the pool has nothing to do by itself at the end.
 fn ends_settled(s: &AbstractPool) -> Result<bool, NoMem>
-    ensures { IfOk result (λ b. IsTrue b ↔ (due_of s.now ≡ None)) }
+    ensures { IfOk result (λ b. IsTrue b ↔ IsSettled s.now) }
 {
     if !has_room_for_more(s) {
         return Err(NoMem);

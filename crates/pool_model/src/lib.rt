@@ -8,7 +8,7 @@
 
 mod judge;
 
-pub use judge::first_bad;
+pub use judge::{first_bad, has_room_for_more, open_pool};
 pub use pool_rules::PoolPort;
 pub use pool_settling::due::Due;
 pub use pool_values::{

@@ -1,9 +1,7 @@
 -- What a look through a list of entries finds out: that it is a history, or the first place that keeps it from being one.
-use Rattle.std.proofs.Common.{◌≡◌, ◌<◌, ◌+◌, ℕ, List, Some, None, inl, inr, refl, sym, ap, subst, ◌∙◌, arith, length, take, slice_get}
+use Rattle.std.proofs.Common.{◌≡◌, ◌<◌, ◌+◌, ℕ, List, Some, inl, inr, refl, sym, ap, subst, ◌∙◌, arith, length, take, slice_get}
 use Rattle.std.proofs.lemmas.Bool.{cases_order}
 use Rattle.std.proofs.lemmas.Option.{slice_get_within}
-use Rattle.pool_settling.proofs.DueLemmas.{settled_none}
-use Rattle.pool_settling.specs.Due.{due_of}
 use Rattle.pool_rules.specs.Histories.{run, MayStand, IsHistory, IsFirstBad}
 use Rattle.pool_settling.specs.Settling.{IsSettled}
 use Rattle.pool_values.specs.declared.config.Config.{Config}
@@ -32,12 +30,9 @@ bad_at config h k x is_x bad before = record {
   bad = inl (record { index = k; is_place = refl; entry = x; is_entry = is_x; bad = bad });
 }
 
--- the list is a history, where nothing is due at its end
-pub history_is : (config : Config) (h : List Entry) → StandBefore config h (length h) → due_of (run config h) ≡ None → IsHistory config h
-history_is config h before none = record {
-  each = λ i e is_entry. before i e (slice_get_within h i e is_entry) is_entry;
-  settled = settled_none (run config h) none;
-}
+-- the list is a history, where the pool has nothing to do by itself at its end
+pub history_is : (config : Config) (h : List Entry) → StandBefore config h (length h) → IsSettled (run config h) → IsHistory config h
+history_is config h before settled = record { each = λ i e is_entry. before i e (slice_get_within h i e is_entry) is_entry; settled = settled }
 
 pub unsettled_at : (config : Config) (h : List Entry) → StandBefore config h (length h) → (¬ IsSettled (run config h)) → IsFirstBad config h (length h + 1)
 unsettled_at config h before unsettled = record {

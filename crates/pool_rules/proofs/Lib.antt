@@ -1,7 +1,13 @@
+pub mod AllowedLemmas
 pub mod DialLemmas
+pub mod EditLemmas
 pub mod FirstBadLemmas
+pub mod HeldLemmas
 pub mod HistoryLemmas
+pub mod KeepLemmas
+pub mod LeaseLemmas
+pub mod OwnLemmas
 pub mod ReplyLemmas
 pub mod RunLemmas
-pub mod ShutLemmas
 pub mod StandLemmas
+pub mod WorkingLemmas

@@ -4,4 +4,4 @@ pub mod Looks
 pub mod Port
 pub mod Reading
 pub mod Replies
-pub mod Shut
+pub mod Working

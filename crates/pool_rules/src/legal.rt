@@ -1,10 +1,11 @@
 // Whether an entry may stand at a state.
-ghost use Rattle.std.specs.Prelude.{◌≡◌, ◌≢◌, ◌↔◌, ◌≤◌, ◌+◌, ◌<◌, ◌^◌, IsTrue, IfOk, length, Some, None, is_some};
+ghost use Rattle.std.specs.Prelude.{◌≡◌, ◌≢◌, ◌↔◌, ◌≤◌, ◌+◌, ◌<◌, ◌^◌, IsTrue, length};
 ghost use Rattle.pool_steps.specs.After as after;
-ghost use Rattle.pool_settling.specs.Due.{due_of};
+ghost use Rattle.pool_settling.specs.Due.{IsNext};
 ghost use Rattle.pool_rules.specs.Histories.{MayStand};
 ghost use Rattle.pool_rules.specs.Legal as spec;
 ghost use Rattle.pool_rules.specs.Replies as replies;
+ghost use Rattle.pool_rules.specs.Working.{MayWorkAt};
 ghost use Rattle.pool_settling.specs.Settling as settling;
 ghost use Rattle.pool_ways.specs.Ways as ways;
 
@@ -22,7 +23,7 @@ use pool_values::{
     Submission, SubmitReply,
 };
 use pool_ways::lists::numbered;
-use pool_ways::statuses::is_wanted;
+use pool_ways::statuses::{is_busy, is_wanted};
 
 /// Whether a submission may be made, with this reply.
 fn may_submit(s: &AbstractPool, ask: &Submission, reply: SubmitReply) -> bool
@@ -81,8 +82,18 @@ fn may_order(s: &AbstractPool, who: CallerNo, conn: ConnNo, sent: u64, orders: &
     }
 }
 
+/// Whether a worker may ask for the orders of this connection.
+pub fn may_work(s: &AbstractPool, who: CallerNo, conn: ConnNo, sent: u64) -> bool
+    ensures { IsTrue result ↔ MayWorkAt s.now who conn sent }
+{
+    match numbered(u64::from(conn.0), s.connections.as_slice()) {
+        None => false,
+        Some(c) => is_workers_entry(c, who, sent) && is_busy(c.phase),
+    }
+}
+
 /// Whether a worker may report this.
-fn may_tell(s: &AbstractPool, who: CallerNo, conn: ConnNo, sent: u64, report: &Report) -> bool
+pub fn may_tell(s: &AbstractPool, who: CallerNo, conn: ConnNo, sent: u64, report: &Report) -> bool
     ensures { IsTrue result ↔ spec.MayTell s.now who conn sent report.now }
 {
     match numbered(u64::from(conn.0), s.connections.as_slice()) {
@@ -92,7 +103,7 @@ fn may_tell(s: &AbstractPool, who: CallerNo, conn: ConnNo, sent: u64, report: &R
 }
 
 /// Whether a worker may give up its connection by this cause.
-fn may_end(s: &AbstractPool, who: CallerNo, conn: ConnNo, sent: u64, cause: EndCause) -> bool
+pub fn may_end(s: &AbstractPool, who: CallerNo, conn: ConnNo, sent: u64, cause: EndCause) -> bool
     ensures { IsTrue result ↔ spec.MayEnd s.now who conn sent cause }
 {
     match numbered(u64::from(conn.0), s.connections.as_slice()) {
@@ -103,7 +114,7 @@ fn may_end(s: &AbstractPool, who: CallerNo, conn: ConnNo, sent: u64, cause: EndC
 
 /// The number of the connection that is to be dialed.
 #[tactic(auto, unfolding(crate::specs::Replies::dial_of, pool_settling::specs::Due::lowest_from))]
-fn next_dial(s: &AbstractPool) -> Option<u64>
+pub fn next_dial(s: &AbstractPool) -> Option<u64>
     ensures { result ≡ replies.dial_of s.now }
 {
     let mut number = 1u64;
@@ -143,7 +154,7 @@ fn may_dial(s: &AbstractPool, conn: ConnNo, target: &Target) -> bool
 }
 
 /// Whether the pool has something to do by itself.
-fn is_late(s: &AbstractPool) -> bool
+pub fn is_late(s: &AbstractPool) -> bool
     requires { length s.now.connections ≤ 4294967294 }
     ensures { IsTrue result ↔ settling.IsLate s.now }
 {
@@ -201,7 +212,7 @@ fn is_reply(s: &AbstractPool, who: CallerNo, act: &Act) -> bool
 
 /// Whether the act is due, where this is.
 fn is_due(s: &AbstractPool, d: Due, act: &Act) -> bool
-    requires { due_of s.now ≡ Some d }
+    requires { IsNext s.now d }
     ensures { IsTrue result ↔ settling.IsDue s.now act.now }
 {
     is_act(s, d, act)
@@ -209,7 +220,7 @@ fn is_due(s: &AbstractPool, d: Due, act: &Act) -> bool
 
 /// Whether the entry is one of the pool itself, where this is due.
 fn is_pools_entry(s: &AbstractPool, d: Due, e: &Entry) -> bool
-    requires { due_of s.now ≡ Some d }
+    requires { IsNext s.now d }
     ensures { IsTrue result ↔ spec.IsPoolsEntry s.now e.now }
 {
     e.who.0 == 0 && e.moment == s.latest && is_due(s, d, &e.act)
@@ -225,7 +236,7 @@ fn is_calls_entry(s: &AbstractPool, e: &Entry) -> bool
 
 /// Counts the entry's moment, and whether the entry may stand at the state before, where this is due there.
 fn noted_due(s: &mut AbstractPool, d: Due, e: &Entry) -> bool
-    requires due { due_of s.old ≡ Some d }
+    requires due { IsNext s.old d }
     requires fits { s.old.entries + 1 < 2 ^ 64 }
     ensures state { s.new ≡ after.noted s.old e.now.moment }
     ensures stands { IsTrue result ↔ MayStand s.old e.now }
@@ -237,7 +248,7 @@ fn noted_due(s: &mut AbstractPool, d: Due, e: &Entry) -> bool
 
 /// Counts the entry's moment, and whether the entry may stand at the state before, where nothing is due there.
 fn noted_settled(s: &mut AbstractPool, e: &Entry) -> bool
-    requires due { due_of s.old ≡ None }
+    requires settled { settling.IsSettled s.old }
     requires fits { s.old.entries + 1 < 2 ^ 64 }
     requires few { length s.old.connections ≤ 4294967294 }
     ensures state { s.new ≡ after.noted s.old e.now.moment }

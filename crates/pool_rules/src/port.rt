@@ -14,7 +14,8 @@ use std::alloc::Global;
 
 /// A pool as one caller uses it. Each call leaves its entry once, if it has one, in a history that extends what the
 /// caller had seen, and its reply is the one that the abstract pool gives there. After want of memory the call has left
-/// no entry. What is seen after a call is a history. The answer of a look, and of a call that leaves no entry, is that of the state which this history leaves.
+/// no entry. What is seen after a call is a history. The answer of a look, and of a call that leaves no entry, is that of
+/// the state which this history leaves.
 pub trait PoolPort {
     /// What the port shows: limits, caller, history, and whose entries a call may bring.
     ghost port: { Self → PortView };

@@ -29,7 +29,7 @@ pub fn own_exchange<'a>(s: &'a AbstractPool, who: CallerNo, no: ExchangeNo) -> O
 }
 
 /// Whether a probe isn't one of the http-opportunistic resource of an http origin (RFC 8164, section 2.3).
-fn is_bad_probe(ask: &Submission) -> bool
+pub fn is_bad_probe(ask: &Submission) -> bool
     ensures { result ≡ spec.is_bad_probe ask.now }
 {
     ask.probe && !(ask.request.origin.scheme == Scheme::Http && is_probe_path(ask))

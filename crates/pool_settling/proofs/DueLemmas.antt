@@ -1,5 +1,5 @@
 -- What is computed to be due is due, it is all that is due, and where nothing is computed nothing is due.
-use Rattle.std.proofs.Common.{◌≡◌, ◌⊎◌, Option, Some, None, false, inl, inr, refl, sym, ap, subst, ◌∙◌, is_some, IsSome}
+use Rattle.std.proofs.Common.{◌≡◌, ◌↔◌, ◌⊎◌, Option, Some, None, false, inl, inr, refl, sym, ap, subst, ◌∙◌, is_some, IsSome, MatchOption}
 use Rattle.net_base.specs.declared.numbers.ConnNo.{ConnNo}
 use Rattle.net_base.specs.declared.numbers.ExchangeNo.{ExchangeNo}
 use Rattle.net_base.specs.declared.numbers.StreamNo.{StreamNo}
@@ -8,9 +8,9 @@ use Rattle.pool_settling.proofs.AssignLemmas.{assign_is, assign_back, assign_non
 use Rattle.pool_settling.proofs.EvictLemmas.{evict_is, evict_back}
 use Rattle.pool_settling.proofs.KindLemmas.{NoExpire, NoLapse, NoAssign, NoWant, expire_is, expire_back, expire_none, no_expire_due, lapse_is, lapse_back, lapse_none, no_lapse_due, want_is, want_back, want_none, no_want_due}
 use Rattle.pool_ways.proofs.NumberLemmas.{option_cases}
-use Rattle.pool_settling.specs.Due.{or_else, expire_due, lapse_due, assign_due, want_due, evict_due, due_of, want_act, act_of}
+use Rattle.pool_settling.specs.Due.{or_else, expire_due, lapse_due, assign_due, want_due, evict_due, due_of, want_act, act_of, IsNext}
 use Rattle.pool_ways.specs.Lists.{numbered}
-use Rattle.pool_settling.specs.Settling.{IsExpire, IsLapse, IsAssign, IsWant, IsEvict, IsDue, IsSettled}
+use Rattle.pool_settling.specs.Settling.{IsExpire, IsLapse, IsAssign, IsWant, IsEvict, IsDue, IsSettled, IsLate}
 use Rattle.pool_ways.specs.Ways.{target_of}
 use Rattle.pool_settling.specs.declared.due.Due.{Due}
 use Rattle.pool_settling.specs.declared.due.Due.TheVariants as due
@@ -148,16 +148,32 @@ due_unique s (Want e c t) h =
     (due.Want e c, want_is_due s e c t h, ap (want_act s e c) h.is_exchange ∙ ap (λ (x : Target). Some (Want e c x)) (sym h.is_target))
 due_unique s (Evict c) h = (due.Evict c, evict_is_due s c h, refl)
 
+-- what is computed to be due is all that is due
+pub due_iff : (s : AbstractPool) (d : Due) → due_of s ≡ Some d → (act : Act) → IsDue s act ↔ (act_of s d ≡ Some act)
+due_iff s d h act = (there, due_is s d act h)
+  where
+    there : IsDue s act → act_of s d ≡ Some act
+    there k = let r = due_unique s act k in let e = r.1 in let same : d ≡ r.0 = cc in ap (act_of s) same ∙ r.2
+
+-- where something is computed the pool has something to do by itself
+pub due_late : (s : AbstractPool) (d : Due) → due_of s ≡ Some d → IsLate s
+due_late s d h = elim (option_cases (act_of s d)) [
+  | inl e ↦ let some = due_has s d h in let f : is_some (act_of s d) ≡ false = ap (λ (o : Option Act). is_some o) e in absurd cc
+  | inr e ↦ (e.0, due_is s d e.0 h e.1)
+]
+
 -- where nothing is computed the pool has nothing to do by itself
 pub settled_none : (s : AbstractPool) → due_of s ≡ None → IsSettled s
 settled_none s h act k = let r = due_unique s act k in absurd (cc (h, r.1))
 
 -- and the other way round
 pub none_settled : (s : AbstractPool) → IsSettled s → due_of s ≡ None
-none_settled s h = elim (option_cases (due_of s)) [
-  | inl k ↦ k
-  | inr k ↦ elim (option_cases (act_of s k.0)) [
-    | inl e ↦ let some = due_has s k.0 k.1 in let f : is_some (act_of s k.0) ≡ false = ap (λ (o : Option Act). is_some o) e in absurd cc
-    | inr e ↦ absurd (h e.0 (due_is s k.0 e.0 k.1 e.1))
-  ]
-]
+none_settled s h = elim (option_cases (due_of s)) [ inl k ↦ k | inr k ↦ let t = due_late s k.0 k.1 in absurd (h t.0 t.1) ]
+
+-- what is computed to be due is what the pool is to do next
+pub due_next : (s : AbstractPool) → MatchOption (due_of s) (IsSettled s) (IsNext s)
+due_next s = by (due_of s) refl
+  where
+    by : (o : Option Due) → due_of s ≡ o → MatchOption o (IsSettled s) (IsNext s)
+    by None h = settled_none s h
+    by (Some d) h = record { late = due_late s d h; only = due_iff s d h }

@@ -1,5 +1,5 @@
 -- What is counted in the abstract pool: each count is how many items of a list pass a test.
-use Rattle.std.specs.Prelude.{ℕ, ◌&&◌, not, Bool, length, count_by}
+use Rattle.std.specs.Prelude.{ℕ, ◌&&◌, not, Bool, count_by}
 use Rattle.partition_keys.specs.Equality.{same_group}
 use Rattle.partition_keys.specs.declared.group.GroupKey.{GroupKey}
 use Rattle.pool_ways.specs.Statuses.{is_gone, is_opening, is_leased}
@@ -34,6 +34,3 @@ openings_of s g = count_by (is_opening_in g) s.connections
 -- the exchanges in the background that have a lease
 unfoldable pub background_leases : AbstractPool → ℕ
 background_leases s = count_by is_background_lease s.exchanges
-
-abbrev pub live_streams_of : Connection → ℕ
-live_streams_of c = length c.live

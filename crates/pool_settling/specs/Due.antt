@@ -1,11 +1,11 @@
 -- What the pool is to do by itself, as functions that compute it.
-use Rattle.std.specs.Prelude.{ℕ, List, [], ◌∷◌, ◌+◌, ◌&&◌, not, nat_lt, Bool, true, Option, Some, None, is_some, if◌then◌else◌, length}
+use Rattle.std.specs.Prelude.{◌≡◌, ◌↔◌, ℕ, List, [], ◌∷◌, ◌+◌, ◌&&◌, not, nat_lt, Bool, true, Option, Some, None, is_some, if◌then◌else◌, length}
 use Rattle.std.specs.List.{list_any}
 use Rattle.net_base.specs.declared.numbers.ConnNo.{ConnNo}
 use Rattle.net_base.specs.declared.numbers.ExchangeNo.{ExchangeNo}
 use Rattle.pool_ways.specs.Lists.{numbered}
 use Rattle.pool_settling.specs.Room.{is_total_full}
-use Rattle.pool_settling.specs.Settling.{has_expired, has_lapsed, can_use, can_start, can_open, is_held_back, is_idle, urgency_of, idle_since_of}
+use Rattle.pool_settling.specs.Settling.{has_expired, has_lapsed, can_use, can_start, can_open, is_held_back, is_idle, urgency_of, idle_since_of, IsDue, IsLate}
 use Rattle.pool_ways.specs.Statuses.{is_closing}
 use Rattle.pool_ways.specs.Ways.{target_of, way_of}
 use Rattle.pool_settling.specs.declared.due.Best.{Best}
@@ -117,3 +117,8 @@ act_of s (due.Lapse e) = Some (Lapse e)
 act_of s (due.Assign e c stream by) = Some (Assign e c stream by)
 act_of s (due.Want e c) = want_act s e c (numbered e.0 s.exchanges)
 act_of s (due.Evict c) = Some (Evict c)
+
+-- the pool has something to do by itself, and it is this alone
+pub record IsNext (s : AbstractPool) (d : Due) : Type 0 where
+  pub late : IsLate s
+  pub only : (act : Act) → IsDue s act ↔ (act_of s d ≡ Some act)

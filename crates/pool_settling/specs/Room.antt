@@ -18,13 +18,13 @@ use Rattle.pool_values.specs.declared.state.ProtoRow.{ProtoRow}
 
 -- ---- eligible
 
--- it is in the background, or has ended
-abbrev pub is_settled_foreground : Exchange → Bool
-is_settled_foreground e = e.ask.background || has_ended e.status
+-- it keeps nothing in the background waiting: it is in the background itself, or has ended
+abbrev pub holds_nothing_back : Exchange → Bool
+holds_nothing_back e = e.ask.background || has_ended e.status
 
 -- no exchange that isn't background is without an end, or the background has leases to spare
 unfoldable pub may_background_start : AbstractPool → Bool
-may_background_start s = list_all is_settled_foreground s.exchanges || nat_lt (background_leases s) s.config.background
+may_background_start s = list_all holds_nothing_back s.exchanges || nat_lt (background_leases s) s.config.background
 
 -- the exchange waits, and isn't held back in the background
 unfoldable pub is_eligible : AbstractPool → Exchange → Bool

@@ -17,17 +17,17 @@ use pool_ways::ways::group_parts;
 // ---- eligible
 
 /// Whether the exchange is in the background or has ended.
-fn is_settled_foreground(e: &Exchange) -> bool
-    ensures { result ≡ spec.is_settled_foreground e.now }
+fn holds_nothing_back(e: &Exchange) -> bool
+    ensures { result ≡ spec.holds_nothing_back e.now }
 {
     e.ask.background || has_ended(&e.status)
 }
 
 /// Whether each of these exchanges is in the background or has ended.
-fn all_settled_foreground(list: &[Exchange]) -> bool
-    ensures { result ≡ list_all spec.is_settled_foreground list.now }
+fn all_hold_nothing_back(list: &[Exchange]) -> bool
+    ensures { result ≡ list_all spec.holds_nothing_back list.now }
 {
-    list.iter().all(is_settled_foreground)
+    list.iter().all(holds_nothing_back)
 }
 
 /// Whether an exchange in the background may have a lease.
@@ -35,7 +35,7 @@ fn all_settled_foreground(list: &[Exchange]) -> bool
 fn may_background_start(s: &AbstractPool) -> bool
     ensures { result ≡ spec.may_background_start s.now }
 {
-    all_settled_foreground(s.exchanges.as_slice())
+    all_hold_nothing_back(s.exchanges.as_slice())
         || background_leases(s) < s.config.background as usize
 }
 

@@ -1,5 +1,5 @@
 // What the pool is to do by itself.
-ghost use Rattle.std.specs.Prelude.{◌≡◌, ◌↔◌, ◌≤◌, IsTrue, IfOk, IfSome, is_some, length};
+ghost use Rattle.std.specs.Prelude.{◌≡◌, ◌↔◌, ◌≤◌, IsTrue, IfOk, IfSome, MatchOption, is_some, length};
 ghost use Rattle.std.specs.List.{list_any};
 ghost use Rattle.pool_settling.specs.Due as spec;
 ghost use Rattle.pool_ways.specs.Lists as lists;
@@ -311,9 +311,9 @@ fn evict_due(s: &AbstractPool) -> Option<Due>
     if must_evict(s) { evict_best(s) } else { None }
 }
 
-/// What the pool is to do by itself: the first kind that applies. Takes no memory.
+/// The first kind that applies.
 #[tactic(auto, unfolding(crate::specs::Due::due_of))]
-pub fn next_due(s: &AbstractPool) -> Option<Due>
+fn computed_due(s: &AbstractPool) -> Option<Due>
     requires { length s.now.connections ≤ 4294967294 }
     ensures { result ≡ spec.due_of s.now }
 {
@@ -336,10 +336,19 @@ pub fn next_due(s: &AbstractPool) -> Option<Due>
     evict_due(s)
 }
 
+/// What the pool is to do by itself: the first kind that applies. Takes no memory.
+pub fn next_due(s: &AbstractPool) -> Option<Due>
+    requires { length s.now.connections ≤ 4294967294 }
+    ensures computes { result ≡ spec.due_of s.now }
+    ensures next { MatchOption result (settling.IsSettled s.now) (spec.IsNext s.now) }
+{
+    computed_due(s)
+}
+
 /// Whether the pool has nothing to do by itself.
 pub fn is_settled(s: &AbstractPool) -> bool
     requires { length s.now.connections ≤ 4294967294 }
-    ensures { IsTrue result ↔ (spec.due_of s.now ≡ None) }
+    ensures { IsTrue result ↔ settling.IsSettled s.now }
 {
     match next_due(s) {
         None => true,

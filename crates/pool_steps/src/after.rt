@@ -7,7 +7,7 @@ use crate::calls::{
     after_cancel, after_dial, after_network, after_orders, after_preconnect, after_reprioritise,
     after_resolved, after_shut, after_submit, group_parts_for,
 };
-use crate::own::{after_assign, after_evict, after_expire, after_lapse, after_want};
+use crate::pools_entries::{after_assign, after_evict, after_expire, after_lapse, after_want};
 use crate::worked::{after_closed, after_report, note_sent};
 use net_base::{CallerNo, ConnNo, NoMem, Origin};
 use partition_keys::PartitionKey;

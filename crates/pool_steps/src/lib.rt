@@ -5,5 +5,5 @@
 pub mod after;
 pub mod calls;
 pub mod exchanges;
-pub mod own;
+pub mod pools_entries;
 pub mod worked;

@@ -1,13 +1,11 @@
-use Rattle.std.proofs.Common.{Bool, true, false, IsTrue, ◌≡◌, ℕ, ◌<◌, ◌+◌, List, Some, None, length, take, refl, sym, ap, subst, ◌∙◌, arith}
+use Rattle.std.proofs.Common.{Bool, true, false, IsTrue, ◌≡◌, ℕ, ◌<◌, ◌+◌, List, Some, length, take, refl, sym, ap, subst, ◌∙◌, arith}
 use Rattle.std.specs.Bool.{OnTrue}
 use Rattle.std.specs.Prelude.{slice_get}
 use Rattle.std.proofs.lemmas.Option.{slice_get_read}
 use Rattle.std.proofs.lemmas.List.{take_all}
 use Rattle.pool_rules.proofs.FirstBadLemmas.{StandBefore, before_none, before_more, bad_at, history_is, unsettled_at}
 use Rattle.pool_rules.proofs.RunLemmas.{run_none, run_at}
-use Rattle.pool_rules.proofs.StandLemmas.{settled_iff}
 use Rattle.pool_steps.specs.After.{after}
-use Rattle.pool_settling.specs.Due.{due_of}
 use Rattle.pool_rules.specs.Histories.{run, MayStand}
 use Rattle.pool_settling.specs.Settling.{IsSettled}
 use Rattle.pool_values.specs.declared.entry.Entry.{Entry}
@@ -64,7 +62,7 @@ returns-then-branch c =
     let e : i ≡ length h = omega arith in
     let s : c.loop-e.s ≡ run c.args.config.now h = c.loop-e.invariant.state ∙ ap (λ (es : List Entry). run c.args.config.now es) (at_end h i e) in
     history_is c.args.config.now h (subst (λ (k : ℕ). StandBefore c.args.config.now h k) e c.loop-e.invariant.before)
-    (subst (λ (t : AbstractPool). due_of t ≡ None) s (c.in_ok-ends_settled.ensures.0 c.if-branch.true))
+    (subst IsSettled s (c.in_ok-ends_settled.ensures.0 c.if-branch.true))
 
 pub returns : goal.returns
 returns c =
@@ -72,6 +70,6 @@ returns c =
     let i = c.loop-e.e-index in
     let e : i ≡ length h = omega arith in
     let s : c.loop-e.s ≡ run c.args.config.now h = c.loop-e.invariant.state ∙ ap (λ (es : List Entry). run c.args.config.now es) (at_end h i e) in
-    let bad = λ (x : IsSettled (run c.args.config.now h)). not_both _ c.if-branch.false (c.in_ok-ends_settled.ensures.1 (subst (λ (t : AbstractPool). due_of t ≡ None) (sym s) ((settled_iff (run c.args.config.now h)).1 x))) in
+    let bad = λ (x : IsSettled (run c.args.config.now h)). not_both _ c.if-branch.false (c.in_ok-ends_settled.ensures.1 (subst IsSettled (sym s) x)) in
     rw (c.loop-e.invariant.place ∙ ap (λ (k : ℕ). k + 1) e)
     (unsettled_at c.args.config.now h (subst (λ (k : ℕ). StandBefore c.args.config.now h k) e c.loop-e.invariant.before) bad)

@@ -1,9 +1,8 @@
-use Rattle.std.proofs.Common.{◌∙◌, sym, refl}
-use Rattle.pool_rules.proofs.StandLemmas.{tick_some, tick_none}
+use Rattle.std.proofs.Common.{refl}
 use Rattle.pool_rules.proofs.legal.is_late.Goals as goal
 
 pub returns-in-None : goal.returns-in-None
-returns-in-None c = ((λ f. absurd cc), (λ l. absurd (tick_none _ (sym c.next_due.ensures ∙ c.in-None.is) l)))
+returns-in-None c = ((λ f. absurd cc), (λ l. absurd (c.in-None.ensures.next l.0 l.1)))
 
 pub returns-in-Some : goal.returns-in-Some
-returns-in-Some c = ((λ t. tick_some _ _ (sym c.next_due.ensures ∙ c.in-Some.is)), (λ l. refl))
+returns-in-Some c = ((λ t. c.in-Some.ensures.next.late), (λ l. refl))

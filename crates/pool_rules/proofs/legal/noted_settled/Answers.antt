@@ -11,7 +11,7 @@ is_calls_entry-requires c = rw c.note.ensures c.requires.few
 
 pub returns-clause-stands : goal.returns-clause-stands
 returns-clause-stands c =
-    let i = stand_none c.args.s.now c.args.e.now c.requires.due in
+    let i = stand_none c.args.s.now c.args.e.now c.requires.settled in
     let e = c.is_calls_entry.ensures in (
       (λ t. i.1 (record {
         caller = (e.0 t).0;

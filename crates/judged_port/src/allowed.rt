@@ -1,0 +1,52 @@
+// What the port's caller may say as a worker, told by the state.
+ghost use Rattle.std.specs.Prelude.{◌↔◌, IsTrue, IfOk};
+ghost use Rattle.judged_port.specs.Judged.{port_of};
+ghost use Rattle.pool_rules.specs.Port.{IsEndedOf, IsReportedOf, IsWorked};
+
+use crate::port::JudgedPort;
+use net_base::{ConnNo, EndCause, NoMem};
+use pool_rules::laws::{ends_as_state_says, reports_as_state_says, works_as_state_says};
+use pool_rules::legal::{may_end, may_tell, may_work};
+use pool_values::Report;
+use std::alloc::Global;
+
+impl JudgedPort {
+    /// Whether the caller may ask for the orders of this connection.
+    pub fn may_work(&self, alloc: Global, conn: ConnNo, sent: u64) -> Result<bool, NoMem>
+        ensures { IfOk result (λ b. IsTrue b ↔ IsWorked (port_of self.now) conn sent) }
+    {
+        let s = self.state(alloc)?;
+        works_as_state_says();
+        Ok(may_work(&s, self.who, conn, sent))
+    }
+
+    /// Whether the caller may report this.
+    pub fn may_report(
+        &self,
+        alloc: Global,
+        conn: ConnNo,
+        sent: u64,
+        r: &Report,
+    ) -> Result<bool, NoMem>
+        ensures { IfOk result (λ b. IsTrue b ↔ IsReportedOf (port_of self.now) conn sent r.now) }
+    {
+        let s = self.state(alloc)?;
+        reports_as_state_says();
+        Ok(may_tell(&s, self.who, conn, sent, r))
+    }
+
+    /// Whether the caller may give up its connection by this cause.
+    pub fn may_close(
+        &self,
+        alloc: Global,
+        conn: ConnNo,
+        sent: u64,
+        cause: EndCause,
+    ) -> Result<bool, NoMem>
+        ensures { IfOk result (λ b. IsTrue b ↔ IsEndedOf (port_of self.now) conn sent cause) }
+    {
+        let s = self.state(alloc)?;
+        ends_as_state_says();
+        Ok(may_end(&s, self.who, conn, sent, cause))
+    }
+}

@@ -1,0 +1,113 @@
+// Longer histories: what an entry leaves, what the pool does by itself behind it, and the judge's word.
+ghost use Rattle.std.specs.Prelude.{◌≡◌, ◌↔◌, ◌≤◌, ◌<◌, ◌+◌, ◌^◌, IsTrue, IfOk, OnOk, length};
+ghost use Rattle.judged_port.specs.Judged.{Follows, Settles};
+ghost use Rattle.pool_rules.specs.Histories.{IsHistory, run};
+ghost use Rattle.pool_steps.specs.After as after;
+
+use net_base::{CallerNo, NoMem, PlainValue};
+use pool_model::{first_bad, has_room_for_more, open_pool};
+use pool_settling::settle::{due_act, next_due};
+use pool_steps::after::after_act;
+use pool_steps::calls::note;
+use pool_values::{AbstractPool, Act, Config, Entry, History};
+use std::alloc::Global;
+
+/// The pool does no more than this many things by itself behind one entry.
+const MOST_OWN: u32 = 65536;
+
+/// The state becomes the one that the entry leaves.
+#[tactic(auto, unfolding(pool_steps::specs::After::after))]
+fn go_on(alloc: Global, s: &mut AbstractPool, e: &Entry) -> Result<(), NoMem>
+    ensures { OnOk result (s.new ≡ after.after s.old e.now) }
+{
+    if !has_room_for_more(s) {
+        return Err(NoMem);
+    }
+    note(s, e.moment);
+    after_act(alloc, s, e.who, &e.act)
+}
+
+/// The state that the entries leave.
+pub(crate) fn state_of(
+    alloc: Global,
+    config: &Config,
+    entries: &[Entry],
+) -> Result<AbstractPool, NoMem>
+    ensures { IfOk result (λ s. s ≡ run config.now entries.now) }
+{
+    let mut s = open_pool(alloc, config);
+    for e in entries {
+        go_on(alloc, &mut s, e)?;
+    }
+    Ok(s)
+}
+
+/// What the pool is to do by itself, as the history has it.
+fn own_act(alloc: Global, s: &AbstractPool) -> Result<Option<Act>, NoMem> {
+    if !has_room_for_more(s) {
+        return Err(NoMem);
+    }
+    match next_due(s) {
+        None => Ok(None),
+        Some(d) => due_act(alloc, s, d),
+    }
+}
+
+/// Adds what the pool does by itself. Its caller is 0, and its moment the greatest so far.
+fn add_own(
+    alloc: Global,
+    s: &mut AbstractPool,
+    history: &mut History,
+    act: Act,
+) -> Result<(), NoMem>
+    ensures { OnOk result (Settles history.old history.new) }
+{
+    let own = Entry {
+        who: CallerNo(0),
+        moment: s.latest,
+        act,
+    };
+    go_on(alloc, s, &own)?;
+    history.push(alloc, own)
+}
+
+/// Adds all that the pool does by itself.
+fn settle(alloc: Global, s: &mut AbstractPool, history: &mut History) -> Result<(), NoMem>
+    ensures { OnOk result (Settles history.old history.new) }
+{
+    for _ in 0..MOST_OWN {
+        match own_act(alloc, s)? {
+            None => return Ok(()),
+            Some(act) => add_own(alloc, s, history, act)?,
+        }
+    }
+    Err(NoMem)
+}
+
+/// The list, where it is a history.
+pub(crate) fn judged(alloc: Global, config: &Config, history: History) -> Result<History, NoMem>
+    ensures same { IfOk result (λ h. h ≡ history) }
+    ensures history { IfOk result (λ h. IsHistory config.now h) }
+{
+    match first_bad(alloc, config, &history)? {
+        None => Ok(history),
+        Some(_) => Err(NoMem),
+    }
+}
+
+/// The history with one more entry, and with what the pool does by itself behind it.
+pub(crate) fn followed(
+    alloc: Global,
+    config: &Config,
+    history: &History,
+    e: Entry,
+) -> Result<History, NoMem>
+    ensures { IfOk result (λ h. Follows config.now history.now e h) }
+{
+    let mut s = state_of(alloc, config, history.as_slice())?;
+    go_on(alloc, &mut s, &e)?;
+    let mut longer = history.copy(alloc)?;
+    longer.push(alloc, e)?;
+    settle(alloc, &mut s, &mut longer)?;
+    judged(alloc, config, longer)
+}
