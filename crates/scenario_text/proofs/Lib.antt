@@ -1,1 +1,3 @@
-pub mod JsonValues
+pub mod CallLemmas
+pub mod ReaderFaults
+pub mod ScenarioLemmas

@@ -1,1 +1,3 @@
-pub mod SmallForm
+pub mod Calls
+pub mod Peers
+pub mod Scenarios

@@ -1,0 +1,3 @@
+pub mod Faults
+pub mod Json
+pub mod Values
