@@ -1,0 +1,17 @@
+//! The journal of a run, format 1: one line for each entry of its history, between the line of the format and `end` with
+//! the number of entries.
+//!
+//! `write_entry` and `write_journal` write just the text that the definition gives of an entry and of a history. The format
+//! is this project's own.
+#![tactic(auto)]
+
+mod acts;
+mod journal;
+mod parts;
+mod replies;
+mod reports;
+
+pub use journal::{write_entry, write_journal};
+
+#[cfg(test)]
+mod tests;

@@ -1,0 +1,19 @@
+//! How the journal writes values: octets in lower-case hexadecimal, numbers in decimal, lists with commas, `-` for what is
+//! empty; and how words stand in a line, each behind one space.
+//!
+//! Each function writes just the text that its definition says. The format is this project's own; what the values are is
+//! said by the Fetch Standard, RFC 7838 and RFC 8164.
+#![tactic(auto)]
+
+mod line;
+mod texts;
+
+pub use line::{put, put_alt, put_number, put_proof, put_target};
+pub use texts::{
+    addresses_text, alternatives_text, cause_text, condition_text, credentials_text, deadline_text,
+    fields_text, hex_text, host_and_port, list_text, number_text, octets_text, origin_text,
+    proto_text, security_text, streams_text, via_text, way_text,
+};
+
+#[cfg(test)]
+mod tests;
