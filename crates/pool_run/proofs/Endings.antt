@@ -1,23 +1,33 @@
--- How a run ended, and what the top call says of it.
-use Rattle.std.proofs.Common.{◌≡◌, ℕ, ◌<◌, ◌≤◌, Bool, IsTrue, List, [], ◌∷◌, map, codes, length, slice_index_or, slice_set, String, string_bytes, Global, Option, None, Some, Ok, inl, inr, refl, sym, ap, subst, ◌∙◌, arith}
+-- How a command ended, and what the top call says of it.
+use Rattle.std.proofs.Common.{◌≡◌, ◌≢◌, ℕ, ◌<◌, List, [], ◌∷◌, map, codes, length, slice_index_or, slice_set, String, Global, Option, None, Some, Result, Ok, Err, IfOk, inl, inr, refl, sym, ap, subst, ◌∙◌, arith}
+use Rattle.plain_values.specs.declared.memory.NoMem.{NoMem}
+use Rattle.edge_traits.specs.Told.{Grew}
 use Rattle.edge_traits.specs.Sources.{SourceView}
 use Rattle.edge_traits.specs.Sinks.{SinkView}
 use Rattle.edge_traits.specs.Dialers.{DialerView}
+use Rattle.scenario_walk.specs.declared.fault.ScenarioFault.{ScenarioFault}
+use Rattle.scenario_walk.specs.declared.fault.ScenarioFault.TheVariants as faults
+use Rattle.scenario_text.specs.declared.scenario.Scenario.{Scenario}
+use Rattle.small_form.specs.declared.form.SmallForm.{SmallForm}
+use Rattle.scenario_text.specs.Scenarios.{IsScenario, RefusesScenario}
+use Rattle.small_form.specs.Forms.{IsForm, IsNoForm}
 use Rattle.pool_run.specs.declared.report.Report.{Report}
 use Rattle.pool_run.specs.declared.report.Report.TheVariants as report
+use Rattle.pool_run.specs.declared.ending.Command.{Command}
+use Rattle.pool_run.specs.declared.ending.Command.TheVariants as commands
 use Rattle.pool_run.specs.declared.ending.Ending.{Ending}
 use Rattle.pool_run.specs.declared.ending.Ending.TheVariants as ending
-use Rattle.scenario_text.specs.declared.small_form.SmallForm.{SmallForm}
 use Rattle.pool_run.specs.declared.streams.Input.{Input}
-use Rattle.pool_run.specs.declared.streams.Input.TheVariants.{All}
-use Rattle.pool_run.specs.Streams.{IsInput, ReadsInput}
-use Rattle.scenario_text.specs.SmallForm.{IsForm}
+use Rattle.pool_run.specs.declared.streams.Input.TheVariants.{TooMany}
+use Rattle.pool_run.specs.Check.{refusal_line}
+use Rattle.pool_run.specs.Streams.{HasTooMany, ReadsInput}
 use Rattle.pool_run.specs.Serial.{Reports, RunsForm}
-use Rattle.pool_run.specs.Desk.{IsSerial, Ends, DeskDid, status_of, report_status, IsRunStatus}
+use Rattle.pool_run.specs.Desk.{IsCommand, ReportsOn, Ends, DeskDid, status_of, report_status, IsRunStatus}
 
 of_report : (told : Report) → IsRunStatus (report_status told)
 of_report (report.Answered text) = inl refl
-of_report (report.Refused why) = inr (inl refl)
+of_report (report.Checked text) = inl refl
+of_report (report.Refused text) = inr (inl refl)
 of_report (report.Unbuilt word) = inr (inr (inr (inr (inr refl))))
 
 pub run_status : (e : Ending) → IsRunStatus (status_of e)
@@ -26,62 +36,92 @@ run_status ending.SourceFailed = inr (inr (inl refl))
 run_status (ending.SinkFailed told) = inr (inr (inr (inl refl)))
 run_status (ending.LacksMemory told) = inr (inr (inr (inr (inl refl))))
 
-told_did : (told : Report) (s r : SourceView) (k n : SinkView) (v w : DialerView) (others before after : List DialerView)
-    → before ≡ v ∷ others → after ≡ w ∷ others → Ends s k v (ending.Told told) r n w → DeskDid (report_status told) s r k n before after
-told_did (report.Answered text) s r k n v w others before after b a e = record {
-  answered = λ i. (e.0.0, text, e.0.1, (v, w, others, b, a, e.0.2), e.1);
+-- where the first dialer hasn't changed, none has
+same_dialers : (v w : DialerView) (others before after : List DialerView) → before ≡ v ∷ others → after ≡ w ∷ others → w ≡ v → after ≡ before
+same_dialers v w others before after b a is = a ∙ ap (λ (x : DialerView). x ∷ others) is ∙ sym b
+
+told_did : (c : Command) (told : Report) (s r : SourceView) (k n : SinkView) (v w : DialerView) (others before after : List DialerView)
+    → before ≡ v ∷ others → after ≡ w ∷ others → Ends c s k v (ending.Told told) r n w → DeskDid c (report_status told) s r k n before after
+told_did c (report.Answered text) s r k n v w others before after b a e = record {
+  answered = λ i is. (e.0.1.0, text, e.0.1.1, (v, w, others, b, a, e.0.1.2), e.1);
+  checked = λ i is. let serial : c ≡ commands.Serial = e.0.0 in absurd (cc (serial, is));
   refused = λ i. absurd (omega arith);
   source_failed = λ i. absurd (omega arith);
   sink_failed = λ i. absurd (omega arith);
   memory = λ i. absurd (omega arith);
   unbuilt = λ i. absurd (omega arith);
 }
-told_did (report.Refused why) s r k n v w others before after b a e = record {
-  answered = λ i. absurd (omega arith);
-  refused = λ i. (why, e.0.0, a ∙ ap (λ x. x ∷ others) e.0.1 ∙ sym b, e.1);
+told_did c (report.Checked text) s r k n v w others before after b a e = record {
+  answered = λ i is. let check : c ≡ commands.Check = e.0.0 in absurd (cc (check, is));
+  checked = λ i is. (
+    e.0.1.0,
+    e.0.1.1,
+    same_dialers v w others before after b a e.0.2,
+    subst (λ (t : List ℕ). Grew k.written t n.written) e.0.1.2 e.1,
+  );
+  refused = λ i. absurd (omega arith);
   source_failed = λ i. absurd (omega arith);
   sink_failed = λ i. absurd (omega arith);
   memory = λ i. absurd (omega arith);
   unbuilt = λ i. absurd (omega arith);
 }
-told_did (report.Unbuilt word) s r k n v w others before after b a e = record {
-  answered = λ i. absurd (omega arith);
+told_did c (report.Refused text) s r k n v w others before after b a e = record {
+  answered = λ i is. absurd (omega arith);
+  checked = λ i is. absurd (omega arith);
+  refused = λ i. (
+    e.0.0.0,
+    e.0.0.1,
+    same_dialers v w others before after b a e.0.1,
+    subst (λ (t : List ℕ). Grew k.written t n.written) e.0.0.2 e.1,
+  );
+  source_failed = λ i. absurd (omega arith);
+  sink_failed = λ i. absurd (omega arith);
+  memory = λ i. absurd (omega arith);
+  unbuilt = λ i. absurd (omega arith);
+}
+told_did c (report.Unbuilt word) s r k n v w others before after b a e = record {
+  answered = λ i is. absurd (omega arith);
+  checked = λ i is. absurd (omega arith);
   refused = λ i. absurd (omega arith);
   source_failed = λ i. absurd (omega arith);
   sink_failed = λ i. absurd (omega arith);
   memory = λ i. absurd (omega arith);
-  unbuilt = λ i. (e.0.0, word, e.0.1, (v, w, others, b, a, e.0.2), e.1);
+  unbuilt = λ i. (e.0.0, (e.0.1.0, word, e.0.1.1, (v, w, others, b, a, e.0.1.2), e.1));
 }
 
-pub desk_did : (e : Ending) (s r : SourceView) (k n : SinkView) (v w : DialerView) (others before after : List DialerView)
-    → before ≡ v ∷ others → after ≡ w ∷ others → Ends s k v e r n w → DeskDid (status_of e) s r k n before after
-desk_did (ending.Told told) s r k n v w others before after b a e = told_did told s r k n v w others before after b a e
-desk_did ending.SourceFailed s r k n v w others before after b a e = record {
-  answered = λ i. absurd (omega arith);
+pub desk_did : (c : Command) (e : Ending) (s r : SourceView) (k n : SinkView) (v w : DialerView) (others before after : List DialerView)
+    → before ≡ v ∷ others → after ≡ w ∷ others → Ends c s k v e r n w → DeskDid c (status_of e) s r k n before after
+desk_did c (ending.Told told) s r k n v w others before after b a e = told_did c told s r k n v w others before after b a e
+desk_did c ending.SourceFailed s r k n v w others before after b a e = record {
+  answered = λ i is. absurd (omega arith);
+  checked = λ i is. absurd (omega arith);
   refused = λ i. absurd (omega arith);
-  source_failed = λ i. (e.0, e.1, a ∙ ap (λ x. x ∷ others) e.2 ∙ sym b);
+  source_failed = λ i. (e.0, e.1, same_dialers v w others before after b a e.2);
   sink_failed = λ i. absurd (omega arith);
   memory = λ i. absurd (omega arith);
   unbuilt = λ i. absurd (omega arith);
 }
-desk_did (ending.SinkFailed told) s r k n v w others before after b a e = record {
-  answered = λ i. absurd (omega arith);
+desk_did c (ending.SinkFailed told) s r k n v w others before after b a e = record {
+  answered = λ i is. absurd (omega arith);
+  checked = λ i is. absurd (omega arith);
   refused = λ i. absurd (omega arith);
   source_failed = λ i. absurd (omega arith);
   sink_failed = λ i. (e.1, (told, (v, w, others, b, a, e.0), e.2));
   memory = λ i. absurd (omega arith);
   unbuilt = λ i. absurd (omega arith);
 }
-desk_did (ending.LacksMemory None) s r k n v w others before after b a e = record {
-  answered = λ i. absurd (omega arith);
+desk_did c (ending.LacksMemory None) s r k n v w others before after b a e = record {
+  answered = λ i is. absurd (omega arith);
+  checked = λ i is. absurd (omega arith);
   refused = λ i. absurd (omega arith);
   source_failed = λ i. absurd (omega arith);
   sink_failed = λ i. absurd (omega arith);
   memory = λ i. inl (e.0, (v, w, others, b, a, e.1));
   unbuilt = λ i. absurd (omega arith);
 }
-desk_did (ending.LacksMemory (Some told)) s r k n v w others before after b a e = record {
-  answered = λ i. absurd (omega arith);
+desk_did c (ending.LacksMemory (Some told)) s r k n v w others before after b a e = record {
+  answered = λ i is. absurd (omega arith);
+  checked = λ i is. absurd (omega arith);
   refused = λ i. absurd (omega arith);
   source_failed = λ i. absurd (omega arith);
   sink_failed = λ i. absurd (omega arith);
@@ -95,26 +135,55 @@ pub first_set : {D : Type 0} (seen : D → DialerView) (items new : List D) (old
 first_set seen [] new old x lt is e = absurd (omega arith)
 first_set seen (y ∷ ys) new old x lt is e = (map seen ys, ap (λ z. seen z ∷ map seen ys) (sym is), ap (map seen) e)
 
--- a list of one word
-pub one_word : (words : List (String Global)) (w : String Global) → 1 ≤ length words → length words < 2 → w ≡ slice_index_or words 0 w
-    → map string_bytes words ≡ string_bytes w ∷ []
-one_word [] w le lt is = absurd (omega arith)
-one_word (x ∷ []) w le lt is = ap (λ z. string_bytes z ∷ []) (sym is)
-one_word (x ∷ (y ∷ ys)) w le lt is = absurd (omega arith)
+-- the words of no more than one command
+pub one_command : (words : List (String Global)) (c d : Command) → IsCommand words c → IsCommand words d → c ≡ d
+one_command words commands.Serial commands.Serial is also = refl
+one_command words commands.Serial commands.Check is also =
+    let e : codes "serial" ∷ [] ≡ codes "check" ∷ [] = sym is ∙ also in absurd (cc e)
+one_command words commands.Check commands.Serial is also =
+    let e : codes "check" ∷ [] ≡ codes "serial" ∷ [] = sym is ∙ also in absurd (cc e)
+one_command words commands.Check commands.Check is also = refl
 
-pub serial_word : (words : List (String Global)) (w : String Global) (text : List ℕ) (r : Bool) → 1 ≤ length words → length words < 2 → w ≡ slice_index_or words 0 w
-    → text ≡ string_bytes w → (IsTrue r → text ≡ codes "serial") × (text ≡ codes "serial" → IsTrue r) → (IsTrue r → IsSerial words) × (IsSerial words → IsTrue r)
-serial_word words w text r le lt is t both =
-    let one = one_word words w le lt is in
-    (λ h. one ∙ ap (λ x. x ∷ []) (sym t ∙ both.0 h), λ h. let q : string_bytes w ∷ [] ≡ codes "serial" ∷ [] = sym one ∙ h in both.1 (t ∙ cc))
+-- ---- what a command says of the octets of an input
+
+-- the refusal of an input that is no scenario
+pub refuses_on : (c : Command) (bytes : List ℕ) (v w : DialerView) (fault : ScenarioFault) (result : Result Report NoMem)
+    → w ≡ v → IfOk result (λ told. fault ≢ faults.NoMem) → IfOk result (λ told. told ≡ report.Refused (refusal_line fault))
+    → RefusesScenario bytes fault → ReportsOn c bytes v result w
+refuses_on c bytes v w fault (Err e) same named line refuses = λ left input. inl same
+refuses_on c bytes v w fault (Ok told) same named line (inl none) = λ left input. absurd (named none)
+refuses_on c bytes v w fault (Ok told) same named line (inr why) = λ left input.
+    subst (λ (x : Report). Reports c left v x w) (sym line) ((fault, inr (inl (bytes, input, why)), refl), same)
+
+-- the refusal of a scenario that can't be run yet
+pub leaves_outside : (bytes : List ℕ) (v w : DialerView) (fault : ScenarioFault) (s : Scenario) (result : Result Report NoMem)
+    → w ≡ v → fault ≡ faults.Unsupported (codes "/") → IfOk result (λ told. told ≡ report.Refused (refusal_line fault))
+    → IsScenario bytes s → IsNoForm bytes → ReportsOn commands.Serial bytes v result w
+leaves_outside bytes v w fault s (Err e) same at line is outside = λ left input. inl same
+leaves_outside bytes v w fault s (Ok told) same at line is outside = λ left input.
+    subst (λ (x : Report). Reports commands.Serial left v x w) (sym line)
+    ((fault, inr (inr (refl, (bytes, s, input, is, outside), at)), refl), same)
 
 -- a run of the form that the input has
-pub reports_form : (left : Option (List ℕ)) (v w : DialerView) (bytes : List ℕ) (form : SmallForm) (told : Report)
-    → IsInput left bytes → IsForm bytes form → RunsForm v form (Ok told) w → Reports left v told w
-reports_form left v w bytes form (report.Answered text) input is runs = (form, (bytes, input, is), runs)
-reports_form left v w bytes form (report.Refused why) input is runs = absurd runs
-reports_form left v w bytes form (report.Unbuilt word) input is runs = (form, (bytes, input, is), runs)
+pub runs_on : (bytes : List ℕ) (v w : DialerView) (s : Scenario) (form : SmallForm) (result : Result Report NoMem)
+    → IsForm bytes form → RunsForm v form result w → IsScenario bytes s → ReportsOn commands.Serial bytes v result w
+runs_on bytes v w s form (Ok (report.Answered text)) is runs known = λ left input. (refl, (form, (bytes, s, input, known, is), runs))
+runs_on bytes v w s form (Ok (report.Checked text)) is runs known = λ left input. absurd runs
+runs_on bytes v w s form (Ok (report.Refused text)) is runs known = λ left input. absurd runs
+runs_on bytes v w s form (Ok (report.Unbuilt word)) is runs known = λ left input. (refl, (form, (bytes, s, input, known, is), runs))
+runs_on bytes v w s form (Err e) is runs known = λ left input. inr (refl, (form, (bytes, s, input, known, is), runs))
+
+-- the command that a match saw
+pub on_command : (c d : Command) (bytes : List ℕ) (v w : DialerView) (result : Result Report NoMem)
+    → c ≡ d → ReportsOn d bytes v result w → ReportsOn c bytes v result w
+on_command c d bytes v w result is h = let P : Command → Type 0 = λ x. ReportsOn x bytes v result w in subst P (sym is) h
+
+-- the refusal of an input of too many octets
+pub refuses_many : (c : Command) (left : Option (List ℕ)) (v w : DialerView) (told : Report)
+    → w ≡ v → told ≡ report.Refused (refusal_line (faults.TooMany (codes "/") 67108865)) → HasTooMany left → Reports c left v told w
+refuses_many c left v w told same line many =
+    subst (λ (x : Report). Reports c left v x w) (sym line) ((faults.TooMany (codes "/") 67108865, inl (many, refl), refl), same)
 
 -- what a match saw of an input
-pub input_all : (s r : SourceView) (input : Input) (bytes : List ℕ) → input ≡ All bytes → ReadsInput s (Ok input) r → IsInput s.left bytes
-input_all s r input bytes is reads = let P : Input → Type 0 = λ i. ReadsInput s (Ok i) r in subst P is reads
+pub input_many : (s r : SourceView) (input : Input) → input ≡ TooMany → ReadsInput s (Ok input) r → HasTooMany s.left
+input_many s r input is reads = let P : Input → Type 0 = λ i. ReadsInput s (Ok i) r in subst P is reads

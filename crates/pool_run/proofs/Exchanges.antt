@@ -2,7 +2,7 @@
 use Rattle.std.proofs.Common.{◌≡◌, ℕ, ◌≤◌, List, [], ◌∷◌, ◌++◌, length, sum_by, Option, None, Some, Result, Ok, Err, IsErr, inl, inr, sym, ap, subst, ◌∙◌, arith}
 use Rattle.std.proofs.lemmas.List.Sums.{sum_by_push}
 use Rattle.std.proofs.lemmas.List.{append-nil}
-use Rattle.net_base.specs.declared.memory.NoMem.{NoMem}
+use Rattle.plain_values.specs.declared.memory.NoMem.{NoMem}
 use Rattle.net_base.specs.declared.target.Target.{Target}
 use Rattle.net_base.specs.declared.identity.Identity.{Identity}
 use Rattle.edge_traits.specs.Counts.{Rose, Counts, count_sum}
@@ -20,7 +20,7 @@ use Rattle.pool_run.specs.declared.serial.Said.TheVariants.{Told}
 use Rattle.pool_run.specs.declared.conversation.Talk.TheVariants as talk
 use Rattle.pool_run.specs.declared.report.Unbuilt.TheVariants as unbuilt
 use Rattle.pool_run.specs.declared.report.Report.{Report}
-use Rattle.pool_run.specs.JournalText.{exchange_text}
+use Rattle.pool_run.specs.Journal.{exchange_text}
 use Rattle.pool_run.specs.Exchange.{Says, DialedStaged, UpStaged, UnbuiltStaged, AnsweredStaged, StopsStaged, RunsStaged}
 
 -- a dial and its retirement leave the same places out

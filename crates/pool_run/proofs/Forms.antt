@@ -1,7 +1,7 @@
 -- A dialer that was staged, and then a run over it.
 use Rattle.std.proofs.Common.{◌≡◌, ℕ, List, [], Option, None, Some, Result, Ok, Err, inl, inr, sym, ap, subst, ◌∙◌, sum_by}
 use Rattle.std.proofs.lemmas.List.{append-nil}
-use Rattle.net_base.specs.declared.memory.NoMem.{NoMem}
+use Rattle.plain_values.specs.declared.memory.NoMem.{NoMem}
 use Rattle.net_base.specs.declared.target.Target.{Target}
 use Rattle.net_base.specs.declared.identity.Identity.{Identity}
 use Rattle.edge_traits.specs.Counts.{Rose, Counts}
@@ -9,13 +9,14 @@ use Rattle.edge_traits.specs.Told.{Grew, StaysIfTold}
 use Rattle.edge_traits.specs.Dialers.{DialerView, Stages, DialLacked, LogLine}
 use Rattle.edge_traits.specs.declared.dialer.NetKind.TheVariants.{Inner}
 use Rattle.h1_frames.specs.RequestText.{request_text}
-use Rattle.scenario_text.specs.declared.small_form.SmallForm.{SmallForm}
+use Rattle.small_form.specs.declared.form.SmallForm.{SmallForm}
 use Rattle.pool_run.specs.declared.report.Unbuilt.{Unbuilt}
 use Rattle.pool_run.specs.declared.report.Unbuilt.TheVariants as unbuilt
 use Rattle.pool_run.specs.declared.report.Report.{Report}
 use Rattle.pool_run.specs.declared.report.Report.TheVariants as report
 use Rattle.pool_run.specs.Conversation.{RoseBy}
-use Rattle.pool_run.specs.Serial.{AddsIfTold, DialedOnce, CameUp, WasOpen, AnsweredOnce, IsUnbuilt, IsQuiet, StagedOnly, RunsForm, clear_direct}
+use Rattle.pool_run.specs.Journal.{clear_direct}
+use Rattle.pool_run.specs.Serial.{AddsIfTold, DialedOnce, CameUp, WasOpen, AnsweredOnce, IsUnbuilt, IsQuiet, StagedOnly, RunsForm}
 use Rattle.pool_run.specs.Exchange.{DialedStaged, UpStaged, OpenStaged, AnsweredStaged, UnbuiltStaged, RunsStaged}
 
 adds_from : {A : Type 0} (a b : Option (List A)) (more : List A) (c : Option (List A)) → StaysIfTold a b → Grew b more c → AddsIfTold a more c
@@ -108,7 +109,8 @@ pub runs_form : (u v w : DialerView) (form : SmallForm) (target : Target) (text 
     → RunsStaged v form.request target text result w → RunsForm u form result w
 runs_form u v w form target text (Ok (report.Answered told)) stages at is s =
     answered_form u v w form text told stages is (subst (λ (t : Target). AnsweredStaged v w form.request t text told) at s)
-runs_form u v w form target text (Ok (report.Refused why)) stages at is s = s
+runs_form u v w form target text (Ok (report.Checked told)) stages at is s = s
+runs_form u v w form target text (Ok (report.Refused told)) stages at is s = s
 runs_form u v w form target text (Ok (report.Unbuilt word)) stages at is s =
     unbuilt_form u v w form text word stages is (subst (λ (t : Target). UnbuiltStaged v w t text word) at s)
 runs_form u v w form target text (Err e) stages at is (inl lacked) = inr (inl (staged_form u v w form stages lacked))

@@ -1,6 +1,6 @@
 -- What comes of a conversation over one link: the request's text goes out, and one answer comes back (RFC 9112, section 9).
 use Rattle.std.specs.Prelude.{◌≡◌, ◌⊎◌, ◌+◌, ◌<◌, ◌≤◌, ◌^◌, ℕ, min, List, [], ◌++◌, length, Result, Ok, Err}
-use Rattle.net_base.specs.declared.memory.NoMem.{NoMem}
+use Rattle.plain_values.specs.declared.memory.NoMem.{NoMem}
 use Rattle.net_base.specs.declared.response.Response.{Response}
 use Rattle.edge_traits.specs.Counts.{Rose}
 use Rattle.edge_traits.specs.Links.{LinkView, LinkDid}

@@ -1,6 +1,6 @@
 -- The exchange over a dialer that was staged, step by step.
 use Rattle.std.specs.Prelude.{◌≡◌, ◌⊎◌, ◌≤◌, ℕ, List, [], ◌∷◌, ◌++◌, length, sum_by, Option, Some, None, Result, Ok, Err}
-use Rattle.net_base.specs.declared.memory.NoMem.{NoMem}
+use Rattle.plain_values.specs.declared.memory.NoMem.{NoMem}
 use Rattle.net_base.specs.declared.request.Request.{Request}
 use Rattle.net_base.specs.declared.response.Response.{Response}
 use Rattle.net_base.specs.declared.target.Target.{Target}
@@ -18,7 +18,7 @@ use Rattle.pool_run.specs.declared.report.Report.{Report}
 use Rattle.pool_run.specs.declared.report.Report.TheVariants as report
 use Rattle.pool_run.specs.FirstAnswer.{IsFirstAnswer}
 use Rattle.pool_run.specs.Conversation.{Talks, Spoke, RoseBy, IsOpen, IsNoAnswer}
-use Rattle.pool_run.specs.JournalText.{exchange_text}
+use Rattle.pool_run.specs.Journal.{exchange_text}
 use Rattle.pool_run.specs.Serial.{one_line, IsQuiet}
 
 -- what is said over a link: a conversation with a peer that speaks HTTP/1.1, nothing to another
@@ -81,6 +81,7 @@ StopsStaged before target text after =
 
 abbrev pub RunsStaged : DialerView → Request → Target → List ℕ → Result Report NoMem → DialerView → Type 0
 RunsStaged before request target text (Ok (report.Answered told)) after = AnsweredStaged before after request target text told
-RunsStaged before request target text (Ok (report.Refused why)) after = ⊥
+RunsStaged before request target text (Ok (report.Checked told)) after = ⊥
+RunsStaged before request target text (Ok (report.Refused told)) after = ⊥
 RunsStaged before request target text (Ok (report.Unbuilt word)) after = UnbuiltStaged before after target text word
 RunsStaged before request target text (Err e) after = StopsStaged before target text after

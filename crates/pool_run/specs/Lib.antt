@@ -1,6 +1,6 @@
+pub mod Check
 pub mod Moments
-pub mod JournalWords
-pub mod JournalText
+pub mod Journal
 pub mod FirstAnswer
 pub mod Conversation
 pub mod Serial

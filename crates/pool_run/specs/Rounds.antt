@@ -1,6 +1,6 @@
 -- The steps of a conversation's rounds: what each does to the link, and what it makes of the progress so far.
 use Rattle.std.specs.Prelude.{◌≡◌, ◌⊎◌, ◌+◌, ◌<◌, ◌≤◌, ℕ, List, [], ◌++◌, length, drop, Result, Ok, Err}
-use Rattle.net_base.specs.declared.memory.NoMem.{NoMem}
+use Rattle.plain_values.specs.declared.memory.NoMem.{NoMem}
 use Rattle.net_base.specs.declared.response.Response.{Response}
 use Rattle.edge_traits.specs.Counts.{Rose}
 use Rattle.edge_traits.specs.Links.{LinkView, LinkDid}

@@ -1,10 +1,7 @@
--- What a run of `serial` over the small form may say, and what shows it.
-use Rattle.std.specs.Prelude.{◌≡◌, ◌⊎◌, ◌≤◌, ℕ, List, [], ◌∷◌, ◌++◌, false, length, sum_by, codes, Option, Some, None, Result, Ok, Err}
-use Rattle.net_base.specs.declared.memory.NoMem.{NoMem}
-use Rattle.net_base.specs.declared.origin.Origin.{Origin}
-use Rattle.net_base.specs.declared.target.Target.{Target}
+-- What a command may say of its input, and what shows it.
+use Rattle.std.specs.Prelude.{◌≡◌, ◌⊎◌, ◌≤◌, ℕ, List, [], ◌∷◌, ◌++◌, length, sum_by, codes, Option, Some, None, Result, Ok, Err}
+use Rattle.plain_values.specs.declared.memory.NoMem.{NoMem}
 use Rattle.net_base.specs.declared.target.Proto.TheVariants.{H1, H2}
-use Rattle.net_base.specs.declared.target.Via.TheVariants.{Direct}
 use Rattle.net_base.specs.declared.identity.Identity.{Identity}
 use Rattle.net_base.specs.declared.response.Response.{Response}
 use Rattle.edge_traits.specs.declared.dialer.NetKind.TheVariants.{Inner}
@@ -12,33 +9,45 @@ use Rattle.edge_traits.specs.Counts.{Rose}
 use Rattle.edge_traits.specs.Links.{Place}
 use Rattle.edge_traits.specs.Dialers.{DialerView, LogLine}
 use Rattle.h1_frames.specs.RequestText.{request_text}
-use Rattle.scenario_text.specs.declared.small_form.SmallForm.{SmallForm}
-use Rattle.pool_run.specs.declared.report.Refusal.{Refusal}
-use Rattle.pool_run.specs.declared.report.Refusal.TheVariants.{TooMany, NotJson, Unsupported}
+use Rattle.small_form.specs.declared.form.SmallForm.{SmallForm}
+use Rattle.pool_run.specs.declared.ending.Command.{Command}
+use Rattle.pool_run.specs.declared.ending.Command.TheVariants as commands
 use Rattle.pool_run.specs.declared.report.Unbuilt.{Unbuilt}
 use Rattle.pool_run.specs.declared.report.Unbuilt.TheVariants as unbuilt
 use Rattle.pool_run.specs.declared.report.Report.{Report}
 use Rattle.pool_run.specs.declared.report.Report.TheVariants as report
-use Rattle.scenario_text.specs.SmallForm.{IsForm, IsNoForm, IsNoJson}
+use Rattle.scenario_walk.specs.declared.fault.ScenarioFault.{ScenarioFault}
+use Rattle.scenario_walk.specs.declared.fault.ScenarioFault.TheVariants.{Unsupported, TooMany}
+use Rattle.scenario_text.specs.declared.scenario.Scenario.{Scenario}
+use Rattle.scenario_text.specs.Scenarios.{IsScenario, IsNoScenario}
+use Rattle.small_form.specs.Forms.{IsForm, IsNoForm}
+use Rattle.pool_run.specs.Check.{check_line, refusal_line}
 use Rattle.pool_run.specs.FirstAnswer.{IsFirstAnswer, Stands}
 use Rattle.pool_run.specs.declared.first_answer.Standing.TheVariants as standing
 use Rattle.pool_run.specs.Conversation.{RoseBy, IsOpen, IsNoAnswer}
-use Rattle.pool_run.specs.JournalText.{exchange_text}
+use Rattle.pool_run.specs.Journal.{clear_direct, exchange_text}
 use Rattle.pool_run.specs.Streams.{IsInput, HasTooMany}
 
 -- ---- the input
 
--- why an input is refused
-abbrev pub IsRefused : Option (List ℕ) → Refusal → Type 0
-IsRefused left TooMany = HasTooMany left
-IsRefused left NotJson = (bytes : List ℕ) × IsInput left bytes × IsNoJson bytes
-IsRefused left Unsupported = (bytes : List ℕ) × IsInput left bytes × IsNoForm bytes
+-- the input is a scenario, and this is the scenario
+abbrev pub HasScenario : Option (List ℕ) → Scenario → Type 0
+HasScenario left s = (bytes : List ℕ) × IsInput left bytes × IsScenario bytes s
 
--- the one line that says why
-abbrev pub refusal_line : Refusal → List ℕ
-refusal_line TooMany = codes "refused too-many / 67108865" ++ 10 ∷ []
-refusal_line NotJson = codes "refused not-json" ++ 10 ∷ []
-refusal_line Unsupported = codes "refused unsupported /" ++ 10 ∷ []
+-- the input is a scenario of the small form, and this is the form
+abbrev pub HasForm : Option (List ℕ) → SmallForm → Type 0
+HasForm left form = (bytes : List ℕ) × (s : Scenario) × IsInput left bytes × IsScenario bytes s × IsForm bytes form
+
+-- a scenario that can't be run yet: one that isn't of the small form
+abbrev pub IsOutside : Option (List ℕ) → Type 0
+IsOutside left = (bytes : List ℕ) × (s : Scenario) × IsInput left bytes × IsScenario bytes s × IsNoForm bytes
+
+-- why an input is refused: it has too many octets, it is no scenario, or, for `serial`, it is one that can't be run yet
+abbrev pub IsRefused : Command → Option (List ℕ) → ScenarioFault → Type 0
+IsRefused command left fault =
+    (HasTooMany left × (fault ≡ TooMany (codes "/") 67108865))
+    ⊎ (((bytes : List ℕ) × IsInput left bytes × IsNoScenario bytes fault)
+    ⊎ ((command ≡ commands.Serial) × IsOutside left × (fault ≡ Unsupported (codes "/"))))
 
 -- ---- the connection
 
@@ -46,10 +55,6 @@ refusal_line Unsupported = codes "refused unsupported /" ++ 10 ∷ []
 abbrev pub AddsIfTold : {A : Type 0} → Option (List A) → List A → Option (List A) → Type 0
 AddsIfTold before more None = Unit {0}
 AddsIfTold {A} before more (Some after) = (items : List A) × (before ≡ Some items) × (after ≡ items ++ more)
-
--- the target of an http origin itself: its host and its port, clear and direct
-abbrev pub clear_direct : Origin → Target
-clear_direct o = record { host = o.host; port = o.port; secure = false; via = Direct }
 
 -- the dialer was staged with the scenario's peers, dialed connection 1 to the request's origin once, and has no link
 -- out that wasn't; this identity was recorded, and the log has these new lines
@@ -145,29 +150,34 @@ StopsShort before form after =
 
 -- ---- the report
 
--- the input is of the small form, and this is the form
-abbrev pub HasForm : Option (List ℕ) → SmallForm → Type 0
-HasForm left form = (bytes : List ℕ) × IsInput left bytes × IsForm bytes form
-
--- without memory for a report the dialer hasn't changed, or the input is of the small form and its run stopped short
-abbrev pub LacksReport : Option (List ℕ) → DialerView → DialerView → Type 0
-LacksReport left before after = (after ≡ before) ⊎ ((form : SmallForm) × HasForm left form × StopsShort before form after)
+-- without memory for a report the dialer hasn't changed, or the command runs the small form of the input, and its run
+-- stopped short
+abbrev pub LacksReport : Command → Option (List ℕ) → DialerView → DialerView → Type 0
+LacksReport command left before after =
+    (after ≡ before) ⊎ ((command ≡ commands.Serial) × ((form : SmallForm) × HasForm left form × StopsShort before form after))
 
 -- what a run of an exchange says, and what it leaves without memory
 abbrev pub RunsForm : DialerView → SmallForm → Result Report NoMem → DialerView → Type 0
 RunsForm before form (Ok (report.Answered text)) after = AnsweredOnce before after form text
-RunsForm before form (Ok (report.Refused why)) after = ⊥
+RunsForm before form (Ok (report.Checked text)) after = ⊥
+RunsForm before form (Ok (report.Refused text)) after = ⊥
 RunsForm before form (Ok (report.Unbuilt word)) after = IsUnbuilt before after form word
 RunsForm before form (Err e) after = StopsShort before form after
 
--- what a run says of the octets that its source had left
-abbrev pub Reports : Option (List ℕ) → DialerView → Report → DialerView → Type 0
-Reports left before (report.Answered text) after = (form : SmallForm) × HasForm left form × AnsweredOnce before after form text
-Reports left before (report.Refused why) after = IsRefused left why × (after ≡ before)
-Reports left before (report.Unbuilt word) after = (form : SmallForm) × HasForm left form × IsUnbuilt before after form word
+-- what a command says of the octets that its source had left
+abbrev pub Reports : Command → Option (List ℕ) → DialerView → Report → DialerView → Type 0
+Reports command left before (report.Answered text) after =
+    (command ≡ commands.Serial) × ((form : SmallForm) × HasForm left form × AnsweredOnce before after form text)
+Reports command left before (report.Checked text) after =
+    (command ≡ commands.Check) × ((s : Scenario) × HasScenario left s × (text ≡ check_line s)) × (after ≡ before)
+Reports command left before (report.Refused text) after =
+    ((fault : ScenarioFault) × IsRefused command left fault × (text ≡ refusal_line fault)) × (after ≡ before)
+Reports command left before (report.Unbuilt word) after =
+    (command ≡ commands.Serial) × ((form : SmallForm) × HasForm left form × IsUnbuilt before after form word)
 
 -- the text that is written
 abbrev pub report_text : Report → List ℕ
 report_text (report.Answered text) = text
-report_text (report.Refused why) = refusal_line why
+report_text (report.Checked text) = text
+report_text (report.Refused text) = text
 report_text (report.Unbuilt word) = unbuilt_line word

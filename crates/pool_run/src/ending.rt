@@ -1,13 +1,21 @@
 // How a run ends.
-ghost use Rattle.std.specs.Prelude.{◌≡◌, IsNone};
-ghost use Rattle.pool_run.specs.Desk.{HasReport, TellsReport, Ends, report_status, status_of};
+ghost use Rattle.std.specs.Prelude.{◌≡◌, ◌≢◌, IsNone, IfOk, codes};
+ghost use Rattle.scenario_walk.specs.declared.fault.ScenarioFault.TheVariants as faults;
+ghost use Rattle.scenario_text.specs.declared.scenario.Scenario.{Scenario};
+ghost use Rattle.scenario_text.specs.Scenarios.{IsScenario};
+ghost use Rattle.pool_run.specs.declared.ending.Command.TheVariants as commands;
+ghost use Rattle.pool_run.specs.declared.report.Report.TheVariants as report;
+ghost use Rattle.pool_run.specs.Check as spec;
+ghost use Rattle.pool_run.specs.Desk.{HasReport, ReportsOn, TellsReport, Ends, report_status, status_of};
 
-use crate::report::{Refusal, Report};
+use crate::check::{check_line, refusal_line};
+use crate::report::Report;
 use crate::serial::run_form;
 use crate::streams::{Input, Output, read_input, write_text};
 use edge_traits::{Dialer, Sink, Source};
-use net_base::NoMem;
-use scenario_text::{FormFault, read_form};
+use net_base::{NoMem, Octets};
+use scenario_text::{Scenario, ScenarioFault, read_scenario};
+use small_form::{FormFault, read_form};
 use std::alloc::Global;
 
 /// How a run ends.
@@ -42,51 +50,113 @@ fn status_of_report(report: &Report) -> u8
 {
     match report {
         Report::Answered(_) => 0,
+        Report::Checked(_) => 0,
         Report::Refused(_) => 3,
         Report::Unbuilt(_) => 8,
     }
 }
 
-/// Reads the input, runs its exchange over a dialer and writes what comes of it.
-pub(crate) fn run_serial<S: Source, K: Sink, D: Dialer>(
+/// A command that reads a scenario.
+#[derive(Clone, Copy, Debug, PartialEq, Eq)]
+pub enum Command {
+    /// Runs it by turns on one thread.
+    Serial,
+    /// Says how much it has.
+    Check,
+}
+
+/// Reads the input, does what the command says, over a dialer where it runs anything, and writes what comes of it.
+pub(crate) fn run_command<S: Source, K: Sink, D: Dialer>(
     alloc: Global,
+    command: Command,
     source: &mut S,
     sink: &mut K,
     dialer: &mut D,
 ) -> Ending
     requires { IsNone (D.seen dialer.old).staged }
-    ensures { Ends (S.seen source.old) (K.seen sink.old) (D.seen dialer.old) result (S.seen source.new) (K.seen sink.new) (D.seen dialer.new) }
+    ensures { Ends command (S.seen source.old) (K.seen sink.old) (D.seen dialer.old) result (S.seen source.new) (K.seen sink.new) (D.seen dialer.new) }
 {
-    match report_on(alloc, source, dialer) {
+    match report_on(alloc, command, source, dialer) {
         Ok(Some(report)) => tell(alloc, sink, report),
         Ok(None) => Ending::SourceFailed,
         Err(NoMem) => Ending::LacksMemory(None),
     }
 }
 
-/// What a run has to say, or nothing where a read failed.
+/// What a command has to say, or nothing where a read failed.
 fn report_on<S: Source, D: Dialer>(
     alloc: Global,
+    command: Command,
     source: &mut S,
     dialer: &mut D,
 ) -> Result<Option<Report>, NoMem>
     requires { IsNone (D.seen dialer.old).staged }
-    ensures { HasReport (S.seen source.old) (D.seen dialer.old) result (S.seen source.new) (D.seen dialer.new) }
+    ensures { HasReport command (S.seen source.old) (D.seen dialer.old) result (S.seen source.new) (D.seen dialer.new) }
 {
-    let bytes = match read_input(alloc, source)? {
-        Input::All(bytes) => bytes,
-        Input::TooMany => return Ok(Some(Report::Refused(Refusal::TooMany))),
-        Input::Failed => return Ok(None),
-    };
-    match read_form(alloc, bytes.as_slice()) {
-        Ok(form) => match run_form(alloc, dialer, &form) {
+    match read_input(alloc, source)? {
+        Input::All(bytes) => match report_of(alloc, command, dialer, bytes.as_slice()) {
             Ok(report) => Ok(Some(report)),
             Err(NoMem) => Err(NoMem),
         },
-        Err(FormFault::NotJson) => Ok(Some(Report::Refused(Refusal::NotJson))),
-        Err(FormFault::Unsupported) => Ok(Some(Report::Refused(Refusal::Unsupported))),
+        Input::TooMany => Ok(Some(too_many_octets(alloc)?)),
+        Input::Failed => Ok(None),
+    }
+}
+
+/// What a command says of an input.
+fn report_of<D: Dialer>(
+    alloc: Global,
+    command: Command,
+    dialer: &mut D,
+    bytes: &[u8],
+) -> Result<Report, NoMem>
+    requires { IsNone (D.seen dialer.old).staged }
+    ensures { ReportsOn command bytes.now (D.seen dialer.old) result (D.seen dialer.new) }
+{
+    match read_scenario(alloc, bytes) {
+        Ok(scenario) => match command {
+            Command::Check => checked(alloc, &scenario),
+            Command::Serial => run_small(alloc, dialer, bytes),
+        },
+        Err(fault) => refused(alloc, &fault),
+    }
+}
+
+fn checked(alloc: Global, scenario: &Scenario) -> Result<Report, NoMem>
+    ensures { IfOk result (λ told. told ≡ report.Checked (spec.check_line scenario.now)) }
+{
+    Ok(Report::Checked(check_line(alloc, scenario)?))
+}
+
+/// Runs a scenario of the small form, and refuses any other.
+fn run_small<D: Dialer>(alloc: Global, dialer: &mut D, bytes: &[u8]) -> Result<Report, NoMem>
+    requires { IsNone (D.seen dialer.old).staged }
+    ensures { (s : Scenario) → IsScenario bytes.now s → ReportsOn commands.Serial bytes.now (D.seen dialer.old) result (D.seen dialer.new) }
+{
+    match read_form(alloc, bytes) {
+        Ok(form) => run_form(alloc, dialer, &form),
+        Err(FormFault::NotJson) => refused(alloc, &ScenarioFault::NotJson),
+        Err(FormFault::Unsupported) => {
+            let path = Octets::build(alloc, b"/")?;
+            refused(alloc, &ScenarioFault::Unsupported(path))
+        }
         Err(FormFault::NoMem) => Err(NoMem),
     }
+}
+
+fn refused(alloc: Global, fault: &ScenarioFault) -> Result<Report, NoMem>
+    ensures named { IfOk result (λ told. fault.now ≢ faults.NoMem) }
+    ensures line { IfOk result (λ told. told ≡ report.Refused (spec.refusal_line fault.now)) }
+{
+    Ok(Report::Refused(refusal_line(alloc, fault)?))
+}
+
+/// The refusal of an input of more than 67108864 octets.
+fn too_many_octets(alloc: Global) -> Result<Report, NoMem>
+    ensures { IfOk result (λ told. told ≡ report.Refused (spec.refusal_line (faults.TooMany (codes "/") 67108865))) }
+{
+    let path = Octets::build(alloc, b"/")?;
+    refused(alloc, &ScenarioFault::TooMany(path, 67108865))
 }
 
 /// Writes a report.

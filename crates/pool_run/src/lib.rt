@@ -3,14 +3,16 @@
 //!
 //! The command `serial` reads a scenario, runs its exchange by turns over one connection (RFC 9112) and writes the
 //! journal of what happened and a summary. On status 0 the journal is that of the octets that went over the connection.
+//! The command `check` reads a scenario, runs nothing, and writes how many channels, calls and peers it has. What is no
+//! scenario both refuse by the first fault of the walk through it.
 #![tactic(auto)]
 
+mod check;
 mod conversation;
 mod desk;
 mod ending;
 mod first_answer;
-mod journal_text;
-mod journal_words;
+mod journal;
 mod report;
 mod serial;
 mod streams;

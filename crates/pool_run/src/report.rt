@@ -1,19 +1,8 @@
 // What a run says.
 ghost use Rattle.std.specs.Prelude.{◌≡◌};
-ghost use Rattle.pool_run.specs.Serial.{refusal_line, unbuilt_line, report_text};
+ghost use Rattle.pool_run.specs.Serial.{unbuilt_line, report_text};
 
 use net_base::Octets;
-
-/// Why an input is refused.
-#[derive(Clone, Copy, Debug, PartialEq, Eq)]
-pub enum Refusal {
-    /// It has more than 67108864 octets.
-    TooMany,
-    /// It is no JSON.
-    NotJson,
-    /// It is JSON, but not of the small form.
-    Unsupported,
-}
 
 /// Why the course of a run can't be told yet.
 #[derive(Clone, Copy, Debug, PartialEq, Eq)]
@@ -32,11 +21,16 @@ pub enum Unbuilt {
     Quiet,
 }
 
-/// What a run says: the journal and the summary of its exchange, or why there are none.
+/// What a command says.
 #[derive(Debug, Drop)]
 pub enum Report {
+    /// The journal and the summary of a run.
     Answered(Octets),
-    Refused(Refusal),
+    /// How much the scenario has.
+    Checked(Octets),
+    /// Why the input is refused.
+    Refused(Octets),
+    /// Why there is no journal yet.
     Unbuilt(Unbuilt),
 }
 
@@ -47,20 +41,9 @@ impl Report {
     {
         match self {
             Report::Answered(text) => text.as_slice(),
-            Report::Refused(why) => why.line(),
+            Report::Checked(text) => text.as_slice(),
+            Report::Refused(text) => text.as_slice(),
             Report::Unbuilt(word) => word.line(),
-        }
-    }
-}
-
-impl Refusal {
-    fn line(self) -> &'static [u8]
-        ensures { result.now ≡ refusal_line self }
-    {
-        match self {
-            Refusal::TooMany => b"refused too-many / 67108865\n",
-            Refusal::NotJson => b"refused not-json\n",
-            Refusal::Unsupported => b"refused unsupported /\n",
         }
     }
 }

@@ -1,15 +1,16 @@
 // The run of one exchange over one dialer.
 ghost use Rattle.std.specs.Prelude.{◌≡◌, IfOk, IsSome, IsNone};
-ghost use Rattle.pool_run.specs.Serial.{RunsForm, clear_direct};
+ghost use Rattle.pool_run.specs.Journal.{clear_direct};
+ghost use Rattle.pool_run.specs.Serial.{RunsForm};
 ghost use Rattle.pool_run.specs.Exchange.{RunsStaged, Says};
 
 use crate::conversation::{Talk, converse};
-use crate::journal_text::exchange_text;
+use crate::journal::exchange_text;
 use crate::report::{Report, Unbuilt};
 use edge_traits::{Dialed, Dialer, Link, NetKind};
 use h1_frames::write_request;
 use net_base::{ConnNo, Identity, NoMem, Origin, PlainValue, Proto, Request, Target, Via};
-use scenario_text::SmallForm;
+use small_form::SmallForm;
 use std::alloc::Global;
 
 #[tactic(auto, using(crate::proofs::Forms::runs_form))]
@@ -29,7 +30,7 @@ pub(crate) fn run_form<D: Dialer>(
 }
 
 /// The target of an http origin itself.
-fn target_of(alloc: Global, origin: &Origin) -> Result<Target, NoMem>
+pub(crate) fn target_of(alloc: Global, origin: &Origin) -> Result<Target, NoMem>
     ensures { IfOk result (λ target. target ≡ clear_direct origin.now) }
 {
     Ok(Target {

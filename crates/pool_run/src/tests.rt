@@ -209,15 +209,36 @@ fn words_that_are_no_command_read_and_write_nothing(rt: HostRuntime) -> Result<(
     Ok(())
 }
 
+/// A page: a connection ahead of time, a style sheet and an image behind it.
+const PAGE_LOAD: &[u8] =
+    b"{\"peers\":[{\"host\":\"www.shop.test\",\"port\":443,\"secure\":true,\"proto\":\"h2\",\"names\":[\"*.shop.test\"],\"answers\":[{\"path\":\"*\",\"size\":3000}]}],\"channels\":[{\"calls\":[{\"call\":\"preconnect\",\"url\":\"https://www.shop.test/\",\"count\":1},{\"call\":\"submit\",\"url\":\"https://www.shop.test/a.css\",\"urgency\":1},{\"call\":\"submit\",\"url\":\"https://www.shop.test/b.png\",\"urgency\":6}]}]}";
+
+/// Whether a call ended with this status and this text.
+fn ends_with(outcome: &Outcome, status: u8, text: &[u8]) -> bool {
+    outcome.status == status && outcome.text.as_slice() == text
+}
+
 #[test]
-fn what_is_no_scenario_of_the_form_is_refused(rt: HostRuntime) -> Result<(), Fail> {
+fn check_tells_how_much_a_scenario_has(rt: HostRuntime) -> Result<(), Fail> {
+    let alloc = rt.alloc();
+    let page = call(alloc, &["check"], PAGE_LOAD, NONE_FAIL, InnerDialer::new())?;
+    assert!(rt; ends_with(&page, 0, b"channels 1 calls 3 peers 1\n"));
+    let list = call(alloc, &["check"], b"[]", NONE_FAIL, InnerDialer::new())?;
+    assert!(rt; ends_with(&list, 3, b"refused bad-value /\n"));
+    Ok(())
+}
+
+#[test]
+fn what_cannot_be_run_is_refused_by_its_first_fault(rt: HostRuntime) -> Result<(), Fail> {
     let alloc = rt.alloc();
     let list = serial_over_inner(alloc, b"[]")?;
-    assert_eq!(rt; list.status, 3);
-    assert_eq!(rt; list.text.as_slice(), b"refused unsupported /\n".as_slice());
+    assert!(rt; ends_with(&list, 3, b"refused bad-value /\n"));
+    let unknown = serial_over_inner(alloc, b"{\"x\":1,\"peers\":[],\"channels\":[]}")?;
+    assert!(rt; ends_with(&unknown, 3, b"refused unsupported /x\n"));
     let open = serial_over_inner(alloc, b"{")?;
-    assert_eq!(rt; open.status, 3);
-    assert_eq!(rt; open.text.as_slice(), b"refused not-json\n".as_slice());
+    assert!(rt; ends_with(&open, 3, b"refused not-json\n"));
+    let page = serial_over_inner(alloc, PAGE_LOAD)?;
+    assert!(rt; ends_with(&page, 3, b"refused unsupported /\n"));
     Ok(())
 }
 

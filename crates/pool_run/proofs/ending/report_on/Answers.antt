@@ -1,8 +1,7 @@
-use Rattle.pool_run.proofs.Endings.{reports_form, input_all}
+use Rattle.std.proofs.Common.{refl}
+use Rattle.pool_run.proofs.Endings.{refuses_many, input_many}
 use Rattle.pool_run.proofs.ending.report_on.Goals as goal
 
-pub returns-in-Ok-run_form : goal.returns-in-Ok-run_form
-returns-in-Ok-run_form g c =
-    let input = input_all _ _ _ _ c.in-All.is c.in_ok-bytes.ensures in
-    let form = rw c.as_slice.ensures at c.in-Ok.ensures.ok in
-    reports_form _ _ _ _ _ _ input form c.in-Ok-run_form.ensures
+pub returns-in-TooMany : goal.returns-in-TooMany
+returns-in-TooMany g c =
+    refuses_many _ _ _ _ _ refl c.in_ok-too_many_octets-in-TooMany.ensures (input_many _ _ _ c.in-TooMany.is c.in_ok-bytes.ensures)
