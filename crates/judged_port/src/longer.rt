@@ -1,46 +1,16 @@
 // Longer histories: what an entry leaves, what the pool does by itself behind it, and the judge's word.
-ghost use Rattle.std.specs.Prelude.{◌≡◌, ◌↔◌, ◌≤◌, ◌<◌, ◌+◌, ◌^◌, IsTrue, IfOk, OnOk, length};
+ghost use Rattle.std.specs.Prelude.{◌≡◌, IfOk, OnOk};
 ghost use Rattle.judged_port.specs.Judged.{Follows, Settles};
-ghost use Rattle.pool_rules.specs.Histories.{IsHistory, run};
-ghost use Rattle.pool_steps.specs.After as after;
+ghost use Rattle.pool_rules.specs.Histories.{IsHistory};
 
 use net_base::{CallerNo, NoMem, PlainValue};
-use pool_model::{first_bad, has_room_for_more, open_pool};
+use pool_model::{first_bad, go_on, has_room_for_more, state_of};
 use pool_settling::settle::{due_act, next_due};
-use pool_steps::after::after_act;
-use pool_steps::calls::note;
 use pool_values::{AbstractPool, Act, Config, Entry, History};
 use std::alloc::Global;
 
 /// The pool does no more than this many things by itself behind one entry.
 const MOST_OWN: u32 = 65536;
-
-/// The state becomes the one that the entry leaves.
-#[tactic(auto, unfolding(pool_steps::specs::After::after))]
-fn go_on(alloc: Global, s: &mut AbstractPool, e: &Entry) -> Result<(), NoMem>
-    ensures { OnOk result (s.new ≡ after.after s.old e.now) }
-{
-    if !has_room_for_more(s) {
-        return Err(NoMem);
-    }
-    note(s, e.moment);
-    after_act(alloc, s, e.who, &e.act)
-}
-
-/// The state that the entries leave.
-pub(crate) fn state_of(
-    alloc: Global,
-    config: &Config,
-    entries: &[Entry],
-) -> Result<AbstractPool, NoMem>
-    ensures { IfOk result (λ s. s ≡ run config.now entries.now) }
-{
-    let mut s = open_pool(alloc, config);
-    for e in entries {
-        go_on(alloc, &mut s, e)?;
-    }
-    Ok(s)
-}
 
 /// What the pool is to do by itself, as the history has it.
 fn own_act(alloc: Global, s: &AbstractPool) -> Result<Option<Act>, NoMem> {

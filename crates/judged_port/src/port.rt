@@ -8,7 +8,7 @@ ghost use Rattle.pool_steps.specs.After as after;
 ghost use Rattle.pool_values.specs.declared.entry.Act.TheVariants as act;
 
 use crate::answers::{is_new_to, look_at, rest_of, target_of};
-use crate::longer::{followed, judged, state_of};
+use crate::longer::{followed, judged};
 use crate::orders::orders_by;
 use crate::replies::{
     cancel_reply, change_reply, preconnect_reply, resolved_reply, shut_reply, submit_reply,
@@ -18,7 +18,7 @@ use net_base::{
     StreamList,
 };
 use partition_keys::PartitionKey;
-use pool_model::has_room_for_more;
+use pool_model::{has_room_for_more, state_of};
 use pool_rules::PoolPort;
 use pool_rules::legal::{is_late, next_dial};
 use pool_steps::calls::note;

@@ -7,7 +7,7 @@ use Rattle.pool_rules.specs.Histories.{run}
 use Rattle.pool_steps.specs.After.{after}
 use Rattle.pool_values.specs.declared.entry.Entry.{Entry}
 use Rattle.pool_values.specs.declared.state.AbstractPool.{AbstractPool}
-use Rattle.judged_port.proofs.longer.state_of.Goals as goal
+use Rattle.pool_model.proofs.state.state_of.Goals as goal
 
 pub loop-e-init : goal.loop-e-init
 loop-e-init c = c.open_pool-s.ensures ∙ sym (run_none c.args.config.now)
