@@ -1,1 +1,4 @@
+pub mod Ranges
+pub mod Readers
 pub mod Words
+pub mod Writable

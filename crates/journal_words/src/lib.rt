@@ -5,10 +5,19 @@
 //! said by the Fetch Standard, RFC 7838 and RFC 8164.
 #![tactic(auto)]
 
+mod faults;
 mod line;
+mod readers;
 mod texts;
 
+pub use faults::WordFault;
 pub use line::{put, put_alt, put_number, put_proof, put_target};
+pub use readers::{
+    ReadsWord, parts, read_address, read_addresses, read_alt, read_cause, read_credentials,
+    read_deadline, read_either, read_fields, read_key, read_list, read_moment, read_names,
+    read_number, read_octets, read_origin, read_proof, read_proto, read_security, read_stream,
+    read_streams, read_target, read_u8, read_u16, read_u32, read_u64, read_way,
+};
 pub use texts::{
     addresses_text, alternatives_text, cause_text, condition_text, credentials_text, deadline_text,
     fields_text, hex_text, host_and_port, list_text, number_text, octets_text, origin_text,

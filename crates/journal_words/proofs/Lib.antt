@@ -1,0 +1,9 @@
+pub mod Above
+pub mod Back
+pub mod Digits
+pub mod Hosts
+pub mod Lists
+pub mod Marks
+pub mod Names
+pub mod ReaderLemmas
+pub mod Steps
