@@ -1,0 +1,6 @@
+use Rattle.std.proofs.Common.{◌≡◌, take}
+use Rattle.journal_summary.specs.Summary.{answered_count}
+use Rattle.journal_summary.proofs.counts.answered_count.Given as goal
+
+abbrev pub invariant-loop-x : goal.invariant-loop-x
+invariant-loop-x l = l.n ≡ answered_count (take l.x-index l.exchanges)

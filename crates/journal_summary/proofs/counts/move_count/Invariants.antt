@@ -1,0 +1,6 @@
+use Rattle.std.proofs.Common.{◌≡◌, take}
+use Rattle.journal_summary.specs.Summary.{move_count}
+use Rattle.journal_summary.proofs.counts.move_count.Given as goal
+
+abbrev pub invariant-loop-x : goal.invariant-loop-x
+invariant-loop-x l = l.n ≡ move_count (take l.x-index l.exchanges)
