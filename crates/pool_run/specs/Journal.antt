@@ -1,5 +1,5 @@
 -- The history of the run of one exchange, one GET on one connection, its journal and its summary.
-use Rattle.std.specs.Prelude.{ℕ, ◌+◌, List, [], ◌∷◌, ◌++◌, codes, true, false, None}
+use Rattle.std.specs.Prelude.{ℕ, ◌+◌, List, [], ◌∷◌, ◌++◌, true, false, None}
 use Rattle.net_base.specs.declared.end_cause.EndCause.TheVariants.{Done}
 use Rattle.net_base.specs.declared.identity.Identity.{Identity}
 use Rattle.net_base.specs.declared.numbers.ConnNo.{ConnNo}
@@ -22,7 +22,9 @@ use Rattle.pool_values.specs.declared.reply.SubmitReply.TheVariants.{Accepted}
 use Rattle.pool_values.specs.declared.report.Report.TheVariants as report
 use Rattle.pool_values.specs.declared.submission.Submission.{Submission}
 use Rattle.scenario_text.specs.Calls.{default_key}
+use Rattle.scenario_text.specs.Scenarios.{default_config}
 use Rattle.journal_text.specs.Lines.{journal_text}
+use Rattle.journal_summary.specs.Summary.{summary_text}
 use Rattle.pool_run.specs.Moments.{moment_of}
 
 -- exchange 1, connection 1 and its stream 1
@@ -80,12 +82,7 @@ exchange_history request identity sent round response =
     wanted_entries request ++ opened_entries identity ++ answered_entries (moment_of round) sent response
     ++ closed_entries (moment_of (round + 3)) sent
 
--- the summary of one answered exchange over one connection
-abbrev pub summary_lines : List ℕ
-summary_lines =
-    codes "submitted 1" ++ 10 ∷ [] ++ codes "answered 1" ++ 10 ∷ [] ++ codes "failed 0" ++ 10 ∷ [] ++ codes "cancelled 0" ++ 10 ∷ []
-    ++ codes "moves 0" ++ 10 ∷ [] ++ codes "connections 1" ++ 10 ∷ [] ++ codes "entries 10" ++ 10 ∷ []
-
--- the journal of the exchange and its summary
+-- the journal of the exchange and its summary. A scenario of the small form has the default limits
 unfoldable pub exchange_text : Request → Identity → ℕ → ℕ → Response → List ℕ
-exchange_text request identity sent round response = journal_text (exchange_history request identity sent round response) ++ summary_lines
+exchange_text request identity sent round response =
+    let h = exchange_history request identity sent round response in journal_text h ++ summary_text default_config h

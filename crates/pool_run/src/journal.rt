@@ -3,8 +3,10 @@ ghost use Rattle.std.specs.Prelude.{◌≡◌, ◌+◌, [], ◌∷◌, ◌++◌,
 ghost use Rattle.pool_run.specs.Moments as moments;
 ghost use Rattle.pool_run.specs.Journal as spec;
 ghost use Rattle.scenario_text.specs.Calls.{default_key};
+ghost use Rattle.scenario_text.specs.Scenarios as scenarios;
 
 use crate::serial::target_of;
+use journal_summary::write_summary;
 use journal_text::write_journal;
 use net_base::{
     CallerNo, ConnNo, EndCause, ExchangeNo, Identity, Moment, NoMem, Octets, PlainValue, Request,
@@ -12,7 +14,8 @@ use net_base::{
 };
 use partition_keys::{AltUpdate, PartitionKey, Proof, Site};
 use pool_values::{
-    Act, Entry, History, OrderMark, OrderMarks, Report, ShutReply, Submission, SubmitReply, Way,
+    Act, Config, Entry, History, OrderMark, OrderMarks, Report, ShutReply, Submission, SubmitReply,
+    Way,
 };
 use std::alloc::Global;
 
@@ -183,6 +186,20 @@ fn exchange_history(
     Ok(h)
 }
 
+/// The limits of a scenario that gives none.
+fn default_config() -> Config
+    ensures { result ≡ scenarios.default_config }
+{
+    Config {
+        per_group: 6,
+        total: 32,
+        streams: 100,
+        background: 2,
+        last_stream: 2147483647,
+        submissions: 5000,
+    }
+}
+
 /// The journal of an exchange and its summary.
 #[tactic(auto, unfolding(crate::specs::Journal::exchange_text))]
 pub(crate) fn exchange_text(
@@ -198,9 +215,7 @@ pub(crate) fn exchange_text(
 {
     let h = exchange_history(alloc, request, identity, sent, round, response)?;
     let mut text = write_journal(alloc, &h)?;
-    text.extend(
-        alloc,
-        b"submitted 1\nanswered 1\nfailed 0\ncancelled 0\nmoves 0\nconnections 1\nentries 10\n",
-    )?;
+    let summary = write_summary(alloc, &default_config(), &h)?;
+    text.extend(alloc, summary.as_slice())?;
     Ok(text)
 }
