@@ -110,6 +110,8 @@ pub runs_form : (u v w : DialerView) (form : SmallForm) (target : Target) (text 
 runs_form u v w form target text (Ok (report.Answered told)) stages at is s =
     answered_form u v w form text told stages is (subst (λ (t : Target). AnsweredStaged v w form.request t text told) at s)
 runs_form u v w form target text (Ok (report.Checked told)) stages at is s = s
+runs_form u v w form target text (Ok (report.Judged told)) stages at is s = s
+runs_form u v w form target text (Ok (report.Illegal told)) stages at is s = s
 runs_form u v w form target text (Ok (report.Refused told)) stages at is s = s
 runs_form u v w form target text (Ok (report.Unbuilt word)) stages at is s =
     unbuilt_form u v w form text word stages is (subst (λ (t : Target). UnbuiltStaged v w t text word) at s)

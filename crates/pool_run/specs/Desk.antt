@@ -7,7 +7,6 @@ use Rattle.edge_traits.specs.Told.{Grew}
 use Rattle.edge_traits.specs.Sources.{SourceView}
 use Rattle.edge_traits.specs.Sinks.{SinkView}
 use Rattle.edge_traits.specs.Dialers.{DialerView}
-use Rattle.scenario_walk.specs.declared.fault.ScenarioFault.{ScenarioFault}
 use Rattle.scenario_text.specs.declared.scenario.Scenario.{Scenario}
 use Rattle.small_form.specs.declared.form.SmallForm.{SmallForm}
 use Rattle.pool_run.specs.declared.ending.Command.{Command}
@@ -18,12 +17,14 @@ use Rattle.pool_run.specs.declared.report.Report.TheVariants as report
 use Rattle.pool_run.specs.declared.ending.Ending.{Ending}
 use Rattle.pool_run.specs.declared.ending.Ending.TheVariants as ending
 use Rattle.pool_run.specs.Streams.{IsInput, WritesFront}
-use Rattle.pool_run.specs.Serial.{IsRefused, HasScenario, HasForm, AnsweredOnce, IsUnbuilt, LacksReport, Reports, report_text, unbuilt_line}
-use Rattle.pool_run.specs.Check.{check_line, refusal_line}
+use Rattle.pool_run.specs.Serial.{IsRefusal, HasScenario, HasForm, AnsweredOnce, IsUnbuilt, LacksReport, Reports, report_text, unbuilt_line}
+use Rattle.pool_run.specs.Check.{check_line}
+use Rattle.pool_run.specs.Replay.{HasLegal, HasIllegal, legal_line, illegal_line}
 
 abbrev pub command_word : Command → List ℕ
 command_word commands.Serial = codes "serial"
 command_word commands.Check = codes "check"
+command_word commands.Replay = codes "replay"
 
 -- the words are those of the command
 abbrev pub IsCommand : List (String Global) → Command → Type 0
@@ -47,10 +48,22 @@ abbrev pub ChecksScenario : SourceView → SinkView → List DialerView → Sink
 ChecksScenario source sink before written after =
     (s : Scenario) × HasScenario source.left s × (after ≡ before) × Grew sink.written (check_line s) written.written
 
+-- status 0 of `replay`: the input is a pair whose journal is that of a history, and the line that says so was written; nothing
+-- was staged or dialed
+abbrev pub JudgesPair : SourceView → SinkView → List DialerView → SinkView → List DialerView → Type 0
+JudgesPair source sink before written after =
+    (n : ℕ) × HasLegal source.left n × (after ≡ before) × Grew sink.written (legal_line n) written.written
+
+-- status 1: the input is a pair; the line of its journal that is the first to keep it from being that of a history was written,
+-- and nothing was staged or dialed
+abbrev pub FindsIllegal : SourceView → SinkView → List DialerView → SinkView → List DialerView → Type 0
+FindsIllegal source sink before written after =
+    (line : ℕ) × HasIllegal source.left line × (after ≡ before) × Grew sink.written (illegal_line line) written.written
+
 -- status 3: the input is refused, its line was written, and nothing was staged or dialed
 abbrev pub RefusesInput : Command → SourceView → SinkView → List DialerView → SinkView → List DialerView → Type 0
 RefusesInput command source sink before written after =
-    (why : ScenarioFault) × IsRefused command source.left why × (after ≡ before) × Grew sink.written (refusal_line why) written.written
+    (line : List ℕ) × IsRefusal command source.left line × (after ≡ before) × Grew sink.written line written.written
 
 -- status 4: a read failed, and nothing was written, staged or dialed
 abbrev pub FailsReading : SourceView → SourceView → SinkView → List DialerView → SinkView → List DialerView → Type 0
@@ -79,10 +92,10 @@ LeavesUnbuilt source sink before written after =
     (form : SmallForm) × (word : Unbuilt) × HasForm source.left form × FirstChanged before after (λ v w. IsUnbuilt v w form word)
     × Grew sink.written (unbuilt_line word) written.written
 
--- a status of a run: told, refused, a read or a write failed, no memory, or unbuilt
+-- a status of a run: told, illegal, refused, a read or a write failed, no memory, or unbuilt
 abbrev pub IsRunStatus : ℕ → Type 0
 IsRunStatus status =
-    (status ≡ 0) ⊎ ((status ≡ 3) ⊎ ((status ≡ 4) ⊎ ((status ≡ 5) ⊎ ((status ≡ 6) ⊎ (status ≡ 8)))))
+    (status ≡ 0) ⊎ ((status ≡ 1) ⊎ ((status ≡ 3) ⊎ ((status ≡ 4) ⊎ ((status ≡ 5) ⊎ ((status ≡ 6) ⊎ (status ≡ 8))))))
 
 -- a status of the program: 2 for words that are no command, or that of a run
 abbrev pub IsStatus : ℕ → Type 0
@@ -124,6 +137,8 @@ Ends command source sink before (ending.LacksMemory (Some told)) read written af
 abbrev pub report_status : Report → ℕ
 report_status (report.Answered text) = 0
 report_status (report.Checked text) = 0
+report_status (report.Judged text) = 0
+report_status (report.Illegal text) = 1
 report_status (report.Refused text) = 3
 report_status (report.Unbuilt word) = 8
 
@@ -137,6 +152,8 @@ status_of (ending.LacksMemory told) = 6
 pub record DeskDid (command : Command) (status : ℕ) (source read : SourceView) (sink written : SinkView) (before after : List DialerView) : Type 0 where
   pub answered : status ≡ 0 → command ≡ commands.Serial → AnswersExchange source sink before written after
   pub checked : status ≡ 0 → command ≡ commands.Check → ChecksScenario source sink before written after
+  pub judged : status ≡ 0 → command ≡ commands.Replay → JudgesPair source sink before written after
+  pub illegal : status ≡ 1 → (command ≡ commands.Replay) × FindsIllegal source sink before written after
   pub refused : status ≡ 3 → RefusesInput command source sink before written after
   pub source_failed : status ≡ 4 → FailsReading source read sink before written after
   pub sink_failed : status ≡ 5 → FailsWriting command source sink before written after

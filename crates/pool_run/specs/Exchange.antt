@@ -82,6 +82,8 @@ StopsStaged before target text after =
 abbrev pub RunsStaged : DialerView → Request → Target → List ℕ → Result Report NoMem → DialerView → Type 0
 RunsStaged before request target text (Ok (report.Answered told)) after = AnsweredStaged before after request target text told
 RunsStaged before request target text (Ok (report.Checked told)) after = ⊥
+RunsStaged before request target text (Ok (report.Judged told)) after = ⊥
+RunsStaged before request target text (Ok (report.Illegal told)) after = ⊥
 RunsStaged before request target text (Ok (report.Refused told)) after = ⊥
 RunsStaged before request target text (Ok (report.Unbuilt word)) after = UnbuiltStaged before after target text word
 RunsStaged before request target text (Err e) after = StopsStaged before target text after

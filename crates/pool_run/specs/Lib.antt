@@ -3,6 +3,7 @@ pub mod Moments
 pub mod Journal
 pub mod FirstAnswer
 pub mod Conversation
+pub mod Replay
 pub mod Serial
 pub mod Exchange
 pub mod Streams

@@ -1,5 +1,5 @@
 -- What a command may say of its input, and what shows it.
-use Rattle.std.specs.Prelude.{◌≡◌, ◌⊎◌, ◌≤◌, ℕ, List, [], ◌∷◌, ◌++◌, length, sum_by, codes, Option, Some, None, Result, Ok, Err}
+use Rattle.std.specs.Prelude.{◌≡◌, ◌≢◌, ◌⊎◌, ◌≤◌, ℕ, List, [], ◌∷◌, ◌++◌, length, sum_by, codes, Option, Some, None, Result, Ok, Err}
 use Rattle.plain_values.specs.declared.memory.NoMem.{NoMem}
 use Rattle.net_base.specs.declared.target.Proto.TheVariants.{H1, H2}
 use Rattle.net_base.specs.declared.identity.Identity.{Identity}
@@ -21,7 +21,9 @@ use Rattle.scenario_walk.specs.declared.fault.ScenarioFault.TheVariants.{Unsuppo
 use Rattle.scenario_text.specs.declared.scenario.Scenario.{Scenario}
 use Rattle.scenario_text.specs.Scenarios.{IsScenario, IsNoScenario}
 use Rattle.small_form.specs.Forms.{IsForm, IsNoForm}
+use Rattle.journal_replay.specs.declared.verdict.ReplayFault.{ReplayFault}
 use Rattle.pool_run.specs.Check.{check_line, refusal_line}
+use Rattle.pool_run.specs.Replay.{HasLegal, HasIllegal, HasNoPair, legal_line, illegal_line, pair_refusal_line}
 use Rattle.pool_run.specs.FirstAnswer.{IsFirstAnswer, Stands}
 use Rattle.pool_run.specs.declared.first_answer.Standing.TheVariants as standing
 use Rattle.pool_run.specs.Conversation.{RoseBy, IsOpen, IsNoAnswer}
@@ -42,12 +44,19 @@ HasForm left form = (bytes : List ℕ) × (s : Scenario) × IsInput left bytes �
 abbrev pub IsOutside : Option (List ℕ) → Type 0
 IsOutside left = (bytes : List ℕ) × (s : Scenario) × IsInput left bytes × IsScenario bytes s × IsNoForm bytes
 
--- why an input is refused: it has too many octets, it is no scenario, or, for `serial`, it is one that can't be run yet
+-- why an input is refused: it has too many octets; for `serial` and `check` it is no scenario; for `serial` it is one that
+-- can't be run yet
 abbrev pub IsRefused : Command → Option (List ℕ) → ScenarioFault → Type 0
 IsRefused command left fault =
     (HasTooMany left × (fault ≡ TooMany (codes "/") 67108865))
-    ⊎ (((bytes : List ℕ) × IsInput left bytes × IsNoScenario bytes fault)
+    ⊎ (((command ≢ commands.Replay) × (bytes : List ℕ) × IsInput left bytes × IsNoScenario bytes fault)
     ⊎ ((command ≡ commands.Serial) × IsOutside left × (fault ≡ Unsupported (codes "/"))))
+
+-- the line by which an input is refused, by its cause; for `replay` that is why the pair is refused, or too many octets
+abbrev pub IsRefusal : Command → Option (List ℕ) → List ℕ → Type 0
+IsRefusal command left line =
+    ((why : ScenarioFault) × IsRefused command left why × (line ≡ refusal_line why))
+    ⊎ ((command ≡ commands.Replay) × (why : ReplayFault) × HasNoPair left why × (line ≡ pair_refusal_line why))
 
 -- ---- the connection
 
@@ -160,6 +169,8 @@ LacksReport command left before after =
 abbrev pub RunsForm : DialerView → SmallForm → Result Report NoMem → DialerView → Type 0
 RunsForm before form (Ok (report.Answered text)) after = AnsweredOnce before after form text
 RunsForm before form (Ok (report.Checked text)) after = ⊥
+RunsForm before form (Ok (report.Judged text)) after = ⊥
+RunsForm before form (Ok (report.Illegal text)) after = ⊥
 RunsForm before form (Ok (report.Refused text)) after = ⊥
 RunsForm before form (Ok (report.Unbuilt word)) after = IsUnbuilt before after form word
 RunsForm before form (Err e) after = StopsShort before form after
@@ -170,8 +181,11 @@ Reports command left before (report.Answered text) after =
     (command ≡ commands.Serial) × ((form : SmallForm) × HasForm left form × AnsweredOnce before after form text)
 Reports command left before (report.Checked text) after =
     (command ≡ commands.Check) × ((s : Scenario) × HasScenario left s × (text ≡ check_line s)) × (after ≡ before)
-Reports command left before (report.Refused text) after =
-    ((fault : ScenarioFault) × IsRefused command left fault × (text ≡ refusal_line fault)) × (after ≡ before)
+Reports command left before (report.Judged text) after =
+    (command ≡ commands.Replay) × ((n : ℕ) × HasLegal left n × (text ≡ legal_line n)) × (after ≡ before)
+Reports command left before (report.Illegal text) after =
+    (command ≡ commands.Replay) × ((line : ℕ) × HasIllegal left line × (text ≡ illegal_line line)) × (after ≡ before)
+Reports command left before (report.Refused text) after = IsRefusal command left text × (after ≡ before)
 Reports command left before (report.Unbuilt word) after =
     (command ≡ commands.Serial) × ((form : SmallForm) × HasForm left form × IsUnbuilt before after form word)
 
@@ -179,5 +193,7 @@ Reports command left before (report.Unbuilt word) after =
 abbrev pub report_text : Report → List ℕ
 report_text (report.Answered text) = text
 report_text (report.Checked text) = text
+report_text (report.Judged text) = text
+report_text (report.Illegal text) = text
 report_text (report.Refused text) = text
 report_text (report.Unbuilt word) = unbuilt_line word

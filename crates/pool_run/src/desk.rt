@@ -1,7 +1,7 @@
 // The top call.
 ghost use Rattle.std.specs.Prelude.{◌≡◌, ◌≢◌, ◌<◌, ◌≤◌, ◌↔◌, length, map, codes, All, MatchOption};
 ghost use Rattle.edge_traits.specs.Dialers.{IsUnused};
-ghost use Rattle.pool_run.specs.Desk.{IsCommand, command_word, AnswersExchange, ChecksScenario, RefusesInput, FailsReading, FailsWriting, LacksMemory, LeavesUnbuilt, DeskDid, IsRunStatus, IsStatus};
+ghost use Rattle.pool_run.specs.Desk.{IsCommand, command_word, AnswersExchange, ChecksScenario, JudgesPair, FindsIllegal, RefusesInput, FailsReading, FailsWriting, LacksMemory, LeavesUnbuilt, DeskDid, IsRunStatus, IsStatus};
 ghost use Rattle.pool_run.specs.declared.ending.Command.{Command};
 ghost use Rattle.pool_run.specs.declared.ending.Command.TheVariants as commands;
 
@@ -17,7 +17,8 @@ pub struct Finish<D> {
 }
 
 /// Runs a command on one thread: `serial` reads a scenario of the small form, runs its one exchange by turns over the
-/// first dialer, and writes the journal and the summary; `check` reads any scenario and writes how much it has.
+/// first dialer, and writes the journal and the summary; `check` reads any scenario and writes how much it has; `replay`
+/// reads a scenario and a journal, and writes whether it is that of a history.
 pub fn desk_main<S: Source, K: Sink, D: Dialer>(
     alloc: Global,
     words: &[String],
@@ -34,10 +35,14 @@ pub fn desk_main<S: Source, K: Sink, D: Dialer>(
     ensures untouched { result.status ≡ 2 → (S.seen source.new ≡ S.seen source.old) × (K.seen sink.new ≡ K.seen sink.old)
         × (map D.seen result.dialers.items ≡ map D.seen dialers.items) }
 
-    // 0: the exchange of `serial` was answered and told, or the scenario of `check` was told.
+    // 0: the exchange of `serial` was answered and told, the scenario of `check` was told, or the pair of `replay` is legal.
     ensures answered { IsCommand words.now commands.Serial → result.status ≡ 0 → AnswersExchange (S.seen source.old)
         (K.seen sink.old) (map D.seen dialers.items) (K.seen sink.new) (map D.seen result.dialers.items) }
     ensures checked { IsCommand words.now commands.Check → result.status ≡ 0 → ChecksScenario (S.seen source.old)
+        (K.seen sink.old) (map D.seen dialers.items) (K.seen sink.new) (map D.seen result.dialers.items) }
+    ensures judged { IsCommand words.now commands.Replay → result.status ≡ 0 → JudgesPair (S.seen source.old)
+        (K.seen sink.old) (map D.seen dialers.items) (K.seen sink.new) (map D.seen result.dialers.items) }
+    ensures illegal { result.status ≡ 1 → IsCommand words.now commands.Replay × FindsIllegal (S.seen source.old)
         (K.seen sink.old) (map D.seen dialers.items) (K.seen sink.new) (map D.seen result.dialers.items) }
     ensures refused { result.status ≡ 3 → (command : Command) × IsCommand words.now command × RefusesInput command
         (S.seen source.old) (K.seen sink.old) (map D.seen dialers.items) (K.seen sink.new) (map D.seen result.dialers.items) }
@@ -69,12 +74,14 @@ fn command_of(words: &[String]) -> Option<Command>
 }
 
 fn command_named(word: &[u8]) -> Option<Command>
-    ensures { MatchOption result ((word.now ≢ codes "serial") × (word.now ≢ codes "check")) (λ command. word.now ≡ command_word command) }
+    ensures { MatchOption result ((word.now ≢ codes "serial") × (word.now ≢ codes "check") × (word.now ≢ codes "replay")) (λ command. word.now ≡ command_word command) }
 {
     if word == b"serial".as_slice() {
         Some(Command::Serial)
     } else if word == b"check".as_slice() {
         Some(Command::Check)
+    } else if word == b"replay".as_slice() {
+        Some(Command::Replay)
     } else {
         None
     }

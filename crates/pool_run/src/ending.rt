@@ -1,5 +1,6 @@
 // How a run ends.
 ghost use Rattle.std.specs.Prelude.{◌≡◌, ◌≢◌, IsNone, IfOk, codes};
+ghost use Rattle.edge_traits.specs.Dialers.{DialerView};
 ghost use Rattle.scenario_walk.specs.declared.fault.ScenarioFault.TheVariants as faults;
 ghost use Rattle.scenario_text.specs.declared.scenario.Scenario.{Scenario};
 ghost use Rattle.scenario_text.specs.Scenarios.{IsScenario};
@@ -9,6 +10,7 @@ ghost use Rattle.pool_run.specs.Check as spec;
 ghost use Rattle.pool_run.specs.Desk.{HasReport, ReportsOn, TellsReport, Ends, report_status, status_of};
 
 use crate::check::{check_line, refusal_line};
+use crate::replay::replay_pair;
 use crate::report::Report;
 use crate::serial::run_form;
 use crate::streams::{Input, Output, read_input, write_text};
@@ -51,18 +53,22 @@ fn status_of_report(report: &Report) -> u8
     match report {
         Report::Answered(_) => 0,
         Report::Checked(_) => 0,
+        Report::Judged(_) => 0,
+        Report::Illegal(_) => 1,
         Report::Refused(_) => 3,
         Report::Unbuilt(_) => 8,
     }
 }
 
-/// A command that reads a scenario.
+/// A command that reads an input.
 #[derive(Clone, Copy, Debug, PartialEq, Eq)]
 pub enum Command {
-    /// Runs it by turns on one thread.
+    /// Runs a scenario by turns on one thread.
     Serial,
-    /// Says how much it has.
+    /// Says how much a scenario has.
     Check,
+    /// Judges the journal that stands behind a scenario.
+    Replay,
 }
 
 /// Reads the input, does what the command says, over a dialer where it runs anything, and writes what comes of it.
@@ -113,11 +119,30 @@ fn report_of<D: Dialer>(
     requires { IsNone (D.seen dialer.old).staged }
     ensures { ReportsOn command bytes.now (D.seen dialer.old) result (D.seen dialer.new) }
 {
+    match command {
+        Command::Serial => run_scenario(alloc, dialer, bytes),
+        Command::Check => check_scenario(alloc, bytes),
+        Command::Replay => replay_pair(alloc, bytes),
+    }
+}
+
+/// What `serial` says of an input.
+fn run_scenario<D: Dialer>(alloc: Global, dialer: &mut D, bytes: &[u8]) -> Result<Report, NoMem>
+    requires { IsNone (D.seen dialer.old).staged }
+    ensures { ReportsOn commands.Serial bytes.now (D.seen dialer.old) result (D.seen dialer.new) }
+{
     match read_scenario(alloc, bytes) {
-        Ok(scenario) => match command {
-            Command::Check => checked(alloc, &scenario),
-            Command::Serial => run_small(alloc, dialer, bytes),
-        },
+        Ok(_) => run_small(alloc, dialer, bytes),
+        Err(fault) => refused(alloc, &fault),
+    }
+}
+
+/// What `check` says of an input.
+fn check_scenario(alloc: Global, bytes: &[u8]) -> Result<Report, NoMem>
+    ensures { (v : DialerView) → ReportsOn commands.Check bytes.now v result v }
+{
+    match read_scenario(alloc, bytes) {
+        Ok(scenario) => checked(alloc, &scenario),
         Err(fault) => refused(alloc, &fault),
     }
 }

@@ -28,6 +28,10 @@ pub enum Report {
     Answered(Octets),
     /// How much the scenario has.
     Checked(Octets),
+    /// That a journal is one of a history, and of how many entries.
+    Judged(Octets),
+    /// Which line keeps a journal from being one of a history.
+    Illegal(Octets),
     /// Why the input is refused.
     Refused(Octets),
     /// Why there is no journal yet.
@@ -42,6 +46,8 @@ impl Report {
         match self {
             Report::Answered(text) => text.as_slice(),
             Report::Checked(text) => text.as_slice(),
+            Report::Judged(text) => text.as_slice(),
+            Report::Illegal(text) => text.as_slice(),
             Report::Refused(text) => text.as_slice(),
             Report::Unbuilt(word) => word.line(),
         }

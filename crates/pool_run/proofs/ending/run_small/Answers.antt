@@ -10,7 +10,7 @@ returns-in-Ok g c = λ s known. runs_on _ _ _ s c.in-Ok.form _ c.in-Ok.ensures.o
 pub returns-in-Err-NotJson : goal.returns-in-Err-NotJson
 returns-in-Err-NotJson g c =
     let none = c.in-Err-NotJson.ensures.not_json (ap Err c.in-Err-NotJson.field-0-is) in
-    λ s known. refuses_on commands.Serial _ _ _ faults.NotJson _ refl c.refused.ensures.named c.refused.ensures.line (inr none)
+    λ s known. refuses_on commands.Serial _ _ _ faults.NotJson _ (λ e. cc e) refl c.refused.ensures.named c.refused.ensures.line (inr none)
 
 pub returns-in_ok-path-in-Err-Unsupported : goal.returns-in_ok-path-in-Err-Unsupported
 returns-in_ok-path-in-Err-Unsupported g c =
