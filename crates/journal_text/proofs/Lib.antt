@@ -1,1 +1,10 @@
+pub mod ActAbove
+pub mod ActBack
+pub mod EntryBack
+pub mod JournalLemmas
 pub mod LineLemmas
+pub mod LineSteps
+pub mod OrderBack
+pub mod OrderLoop
+pub mod ReplyBack
+pub mod ReportBack

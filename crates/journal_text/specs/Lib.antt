@@ -1,1 +1,5 @@
+pub mod Journals
+pub mod LineReaders
 pub mod Lines
+pub mod Ranges
+pub mod Writable

@@ -41,7 +41,8 @@ fn put_entries(alloc: Global, text: &mut Octets, entries: &[Entry]) -> Result<()
     Ok(())
 }
 
-fn end_line(alloc: Global, n: u64) -> Result<Octets, NoMem>
+/// `end` and the number of entries.
+pub(crate) fn end_line(alloc: Global, n: u64) -> Result<Octets, NoMem>
     ensures { IfOk result (λ text. text ≡ spec.end_line n) }
 {
     let mut text = Octets::build(alloc, b"end ")?;

@@ -6,12 +6,22 @@
 #![tactic(auto)]
 
 mod acts;
+mod faults;
 mod journal;
 mod parts;
+mod read_calls;
+mod read_entry;
+mod read_replies;
+mod read_reports;
+mod read_works;
+mod reader;
 mod replies;
 mod reports;
+mod writable;
 
+pub use faults::JournalFault;
 pub use journal::{write_entry, write_journal};
+pub use reader::read_journal;
 
 #[cfg(test)]
 mod tests;

@@ -85,6 +85,17 @@ fn full_post(alloc: Global) -> Result<Submission, NoMem> {
     })
 }
 
+/// Whether a journal of this one line has the entry alone, or the line has no orders, which can't be read.
+fn is_read(alloc: Global, line: &'static str, entry: &Entry) -> Result<bool, NoMem> {
+    let mut text = octets(alloc, "poolrun 1\n")?;
+    text.extend(alloc, line.as_bytes())?;
+    text.extend(alloc, b"end 1\n")?;
+    match read_journal(alloc, text.as_slice()) {
+        Ok(h) => Ok(h.len() == 1 && h.as_slice()[0].same(entry)),
+        Err(fault) => Ok(fault == JournalFault::BadLine(2) && line.ends_with("=\n")),
+    }
+}
+
 /// What is expected, and what was written.
 #[derive(Drop)]
 struct Lines {
@@ -93,7 +104,7 @@ struct Lines {
 }
 
 impl Lines {
-    /// Sees to it that the act of caller 2 at moment 10 has this line.
+    /// Sees to it that the act of caller 2 at moment 10 has this line, and is read from it.
     fn is(&mut self, act: Act, wanted: &'static str) -> Result<(), NoMem> {
         let entry = Entry {
             who: CallerNo(2),
@@ -101,7 +112,8 @@ impl Lines {
             act,
         };
         let line = write_entry(self.alloc, &entry)?;
-        if self.wrong.is_none() && line.as_slice() != wanted.as_bytes() {
+        let is_same = line.as_slice() == wanted.as_bytes() && is_read(self.alloc, wanted, &entry)?;
+        if self.wrong.is_none() && !is_same {
             self.wrong = Some(wanted);
         }
         Ok(())
@@ -364,4 +376,138 @@ fn a_journal_ends_with_the_number_of_its_entries(rt: HostRuntime) -> Result<(), 
         b"poolrun 1\n0 999 tick\nend 1\n".as_slice()
     );
     Ok(())
+}
+
+/// A journal that is none, and why.
+struct Refused {
+    text: &'static str,
+    fault: JournalFault,
+}
+
+const REFUSED: [Refused; 22] = [
+    Refused {
+        text: "",
+        fault: JournalFault::Truncated,
+    },
+    Refused {
+        text: "poolrun 1",
+        fault: JournalFault::Truncated,
+    },
+    Refused {
+        text: "poolrun 1\n0 1 tick\nend 1",
+        fault: JournalFault::Truncated,
+    },
+    Refused {
+        text: "poolrun 1\n0 1 tick\n0 1 ti",
+        fault: JournalFault::Truncated,
+    },
+    Refused {
+        text: "poolrun 2\nend 0\n",
+        fault: JournalFault::BadLine(1),
+    },
+    Refused {
+        text: "poolrun 1\r\nend 0\n",
+        fault: JournalFault::BadLine(1),
+    },
+    Refused {
+        text: "poolrun 1\nend 1\n",
+        fault: JournalFault::BadLine(2),
+    },
+    Refused {
+        text: "poolrun 1\n0 1 tick\nend 2\n",
+        fault: JournalFault::BadLine(3),
+    },
+    Refused {
+        text: "poolrun 1\nend\n",
+        fault: JournalFault::BadLine(2),
+    },
+    Refused {
+        text: "poolrun 1\n00 1 tick\nend 1\n",
+        fault: JournalFault::BadLine(2),
+    },
+    Refused {
+        text: "poolrun 1\n0 4294967296 tick\nend 1\n",
+        fault: JournalFault::BadLine(2),
+    },
+    Refused {
+        text: "poolrun 1\n0 1  tick\nend 1\n",
+        fault: JournalFault::BadLine(2),
+    },
+    Refused {
+        text: "poolrun 1\n0 1 tick \nend 1\n",
+        fault: JournalFault::BadLine(2),
+    },
+    Refused {
+        text: "poolrun 1\n0 1 tock\nend 1\n",
+        fault: JournalFault::BadLine(2),
+    },
+    Refused {
+        text: "poolrun 1\n0 1 cancel 1 = done\nend 1\n",
+        fault: JournalFault::BadLine(2),
+    },
+    Refused {
+        text: "poolrun 1\n0 101 orders 1 0 =\nend 1\n",
+        fault: JournalFault::BadLine(2),
+    },
+    Refused {
+        text: "poolrun 1\n0 101 opened 1 0 clear h1 00000000000000000000FFFF7f000001 -\nend 1\n",
+        fault: JournalFault::BadLine(2),
+    },
+    Refused {
+        text: "poolrun 1\n0 101 opened 1 0 clear h1 00000000000000000000ffff7f000001 a/b\nend 1\n",
+        fault: JournalFault::BadLine(2),
+    },
+    Refused {
+        text: "poolrun 1\n0 0 want 1 1 a.test:65536 clear direct\nend 1\n",
+        fault: JournalFault::BadLine(2),
+    },
+    Refused {
+        text: "poolrun 1\n0 0 want 1 1 :80 clear direct\nend 1\n",
+        fault: JournalFault::BadLine(2),
+    },
+    Refused {
+        text: "poolrun 1\n0 1 preconnect http://TOP.test + http://a.test:80 1 = opening 1\nend 1\n",
+        fault: JournalFault::BadLine(2),
+    },
+    Refused {
+        text: "poolrun 1\n0 1 submit https://top.test + 3 fore - plain G(T http://a.test:80 / - - = bad-probe\nend 1\n",
+        fault: JournalFault::BadLine(2),
+    },
+];
+
+/// The first text that isn't refused as it should be.
+fn first_wrong(alloc: Global) -> Option<&'static str> {
+    for case in &REFUSED {
+        match read_journal(alloc, case.text.as_bytes()) {
+            Ok(_) => return Some(case.text),
+            Err(fault) => {
+                if fault != case.fault {
+                    return Some(case.text);
+                }
+            }
+        }
+    }
+    None
+}
+
+#[test]
+fn the_first_bad_line_is_named(rt: HostRuntime) {
+    assert_eq!(rt; first_wrong(rt.alloc()), None);
+}
+
+#[test]
+fn what_stands_behind_the_end_is_no_journal(rt: HostRuntime) {
+    let alloc = rt.alloc();
+    let read = read_journal(alloc, b"poolrun 1\n7 1 tick\nend 1\n0 1 ti\nend 2");
+    assert!(rt; is_one_tick(&read));
+}
+
+fn is_one_tick(read: &Result<History, JournalFault>) -> bool {
+    match read {
+        Ok(h) => match h.as_slice() {
+            [e] => e.moment == Moment(7) && matches!(e.act, Act::Tick),
+            _ => false,
+        },
+        Err(_) => false,
+    }
 }
