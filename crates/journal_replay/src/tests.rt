@@ -1,5 +1,5 @@
 use super::*;
-use net_base::NoMem;
+use net_base::{NoMem, Octets};
 use scenario_text::ScenarioFault;
 use std::alloc::Global;
 use std::test::Fail;
@@ -60,6 +60,28 @@ const JUDGED: [Case; 5] = [
     },
 ];
 
+/// The journal of one GET behind its scenario, up to the line by which its exchange gets a stream.
+const BEFORE: &[u8] =
+    b"{\"peers\":[{\"host\":\"a.test\",\"port\":80,\"answers\":[{\"path\":\"/\",\"text\":\"ok\"}]}],\n\"channels\":[{\"calls\":[{\"call\":\"submit\",\"url\":\"http://a.test/\"}]}]}\n--\npoolrun 1\n0 1 submit https://top.test + 3 fore - plain GET http://a.test:80 / - - = accepted 1\n0 0 want 1 1 a.test:80 clear direct\n0 101 seek = dial 1 a.test:80 clear direct\n0 101 opened 1 0 clear h1 00000000000000000000000000000000 -\n";
+
+/// That line.
+const ASSIGN: &[u8] = b"0 0 assign 1 1 1 direct\n";
+
+/// The lines behind it.
+const BEHIND: &[u8] =
+    b"10 101 orders 1 0 = start 1 1\n20 101 answered 1 32 1 keep 200 content-length:32 6f6b - none none\n50 999 shutdown = noted\n50 101 orders 1 32 = close\n50 101 closed 1 32 done -\n";
+
+/// What is said of it with so many such lines and this end.
+fn example(alloc: Global, assigns: usize, end: &[u8]) -> Result<String, NoMem> {
+    let mut pair = Octets::build(alloc, BEFORE)?;
+    for _ in 0..assigns {
+        pair.extend(alloc, ASSIGN)?;
+    }
+    pair.extend(alloc, BEHIND)?;
+    pair.extend(alloc, end)?;
+    said(alloc, pair.as_slice())
+}
+
 fn said(alloc: Global, pair: &[u8]) -> Result<String, NoMem> {
     match replay(alloc, pair) {
         Ok(Verdict::Legal(n)) => Ok(format!(in alloc; "legal {n}")?),
@@ -99,5 +121,19 @@ fn pairs_are_judged(rt: HostRuntime) -> Result<(), Fail> {
         let line = said(alloc, case.pair)?;
         assert_eq!(rt; line.as_bytes(), case.wanted.as_bytes());
     }
+    Ok(())
+}
+
+#[test]
+fn one_get_is_legal_with_its_assign_once(rt: HostRuntime) -> Result<(), Fail> {
+    let alloc = rt.alloc();
+    let legal = example(alloc, 1, b"end 10\nsubmitted 1\n")?;
+    assert_eq!(rt; legal.as_bytes(), b"legal 10".as_slice());
+    let twice = example(alloc, 2, b"end 11\n")?;
+    assert_eq!(rt; twice.as_bytes(), b"illegal 7".as_slice());
+    let without = example(alloc, 0, b"end 9\n")?;
+    assert_eq!(rt; without.as_bytes(), b"illegal 6".as_slice());
+    let cut = example(alloc, 1, b"end 1")?;
+    assert_eq!(rt; cut.as_bytes(), b"truncated".as_slice());
     Ok(())
 }

@@ -69,7 +69,7 @@ fn status_without_words(rt: &impl Eprint, kind: io::ErrorKind) -> u8 {
 }
 
 fn print_usage(rt: &impl Eprint) {
-    let _ = eprintln!(rt; "usage: poolrun serial | check");
+    let _ = eprintln!(rt; "usage: poolrun serial | check | replay");
 }
 
 /// As many dialers as the top call takes.
