@@ -228,6 +228,42 @@ fn check_tells_how_much_a_scenario_has(rt: HostRuntime) -> Result<(), Fail> {
     Ok(())
 }
 
+/// What `replay` says of the example's scenario with this behind it.
+fn replayed(alloc: Global, behind: &[u8]) -> Result<Outcome, NoMem> {
+    let mut pair = Octets::build(alloc, EXAMPLE)?;
+    pair.extend(alloc, behind)?;
+    let dialer = InnerDialer::new();
+    call(alloc, &["replay"], pair.as_slice(), NONE_FAIL, dialer)
+}
+
+#[test]
+fn what_serial_writes_is_legal(rt: HostRuntime) -> Result<(), Fail> {
+    let alloc = rt.alloc();
+    let told = serial_over_inner(alloc, EXAMPLE)?;
+    let mut behind = Octets::build(alloc, b"\n--\n")?;
+    behind.extend(alloc, told.text.as_slice())?;
+    let legal = replayed(alloc, behind.as_slice())?;
+    assert!(rt; ends_with(&legal, 0, b"legal 10\n"));
+    let evicts = b"\n--\npoolrun 1\n0 1 network\n0 0 evict 1\nend 2\n";
+    let illegal = replayed(alloc, evicts)?;
+    assert!(rt; ends_with(&illegal, 1, b"illegal line 3\n"));
+    Ok(())
+}
+
+#[test]
+fn what_is_no_pair_is_refused(rt: HostRuntime) -> Result<(), Fail> {
+    let alloc = rt.alloc();
+    let alone = replayed(alloc, b"")?;
+    assert!(rt; ends_with(&alone, 3, b"refused no-journal\n"));
+    let other = replayed(alloc, b"\n--\npoolrun 2\n")?;
+    assert!(rt; ends_with(&other, 3, b"refused line 1\n"));
+    let cut = replayed(alloc, b"\n--\n")?;
+    assert!(rt; ends_with(&cut, 3, b"refused truncated\n"));
+    let open = replayed(alloc, b"}\n--\n")?;
+    assert!(rt; ends_with(&open, 3, b"refused not-json\n"));
+    Ok(())
+}
+
 #[test]
 fn what_cannot_be_run_is_refused_by_its_first_fault(rt: HostRuntime) -> Result<(), Fail> {
     let alloc = rt.alloc();
