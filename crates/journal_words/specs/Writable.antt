@@ -17,7 +17,7 @@ is_word text = nat_lt 0 (length text) && list_all (λ b. nat_lt 32 b) text
 abbrev pub are_named : List Field → Bool
 are_named fields = list_all (λ f. is_token f.name) fields
 
--- RFC 9525, section 6.3: at most 100 names, such as an identity may have
+-- names such as an identity may show (RFC 9525, section 6.3), of which this project takes at most 100
 abbrev pub are_names : List (List ℕ) → Bool
 are_names names = nat_le (length names) 100 && list_all is_name names
 
