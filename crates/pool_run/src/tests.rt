@@ -122,8 +122,7 @@ fn the_example_is_answered_and_told(rt: HostRuntime) -> Result<(), Fail> {
         alloc,
         b"20 101 answered 1 32 1 keep 200 content-length:32 6f6b - none none\n50 999 shutdown = noted\n50 101 orders 1 32 = close\n50 101 closed 1 32 done -\n",
     )?;
-    assert_eq!(rt; outcome.status, 0);
-    assert_eq!(rt; outcome.text.as_slice(), wanted.as_slice());
+    assert!(rt; ends_with(&outcome, 0, wanted.as_slice()));
     Ok(())
 }
 
@@ -136,8 +135,7 @@ fn another_scenario_has_its_own_text(rt: HostRuntime) -> Result<(), Fail> {
     )?;
     let wanted =
         b"poolrun 1\n0 1 submit https://top.test + 3 fore - plain GET http://[::1]:8080 /a?b - - = accepted 1\n0 0 want 1 1 [::1]:8080 clear direct\n0 101 seek = dial 1 [::1]:8080 clear direct\n0 101 opened 1 0 clear h1 00000000000000000000000000000000 -\n0 0 assign 1 1 1 direct\n10 101 orders 1 0 = start 1 1\n20 101 answered 1 39 1 keep 200 content-length:30 - - none none\n50 999 shutdown = noted\n50 101 orders 1 39 = close\n50 101 closed 1 39 done -\nend 10\nsubmitted 1\nanswered 1\nfailed 0\ncancelled 0\nmoves 0\nconnections 1\nentries 10\n";
-    assert_eq!(rt; outcome.status, 0);
-    assert_eq!(rt; outcome.text.as_slice(), wanted.as_slice());
+    assert!(rt; ends_with(&outcome, 0, wanted.as_slice()));
     Ok(())
 }
 
@@ -168,8 +166,7 @@ fn an_answer_behind_six_quiet_reads_is_told_in_round_seven(rt: HostRuntime) -> R
         alloc,
         b"70 101 answered 1 32 1 keep 200 content-length:32 6f6b - none none\n100 999 shutdown = noted\n100 101 orders 1 32 = close\n100 101 closed 1 32 done -\n",
     )?;
-    assert_eq!(rt; outcome.status, 0);
-    assert_eq!(rt; outcome.text.as_slice(), wanted.as_slice());
+    assert!(rt; ends_with(&outcome, 0, wanted.as_slice()));
     Ok(())
 }
 
@@ -183,8 +180,7 @@ fn words_that_are_no_command_read_and_write_nothing(rt: HostRuntime) -> Result<(
         FIRST_CALLS_FAIL,
         InnerDialer::new(),
     )?;
-    assert_eq!(rt; extra.status, 2);
-    assert_eq!(rt; extra.text.len(), 0);
+    assert!(rt; ends_with(&extra, 2, b""));
     let load = call(
         alloc,
         &["load", "0"],
@@ -192,8 +188,7 @@ fn words_that_are_no_command_read_and_write_nothing(rt: HostRuntime) -> Result<(
         FIRST_CALLS_FAIL,
         InnerDialer::new(),
     )?;
-    assert_eq!(rt; load.status, 2);
-    assert_eq!(rt; load.text.len(), 0);
+    assert!(rt; ends_with(&load, 2, b""));
     let zero = call(
         alloc,
         &["load", "05"],
@@ -201,11 +196,9 @@ fn words_that_are_no_command_read_and_write_nothing(rt: HostRuntime) -> Result<(
         FIRST_CALLS_FAIL,
         InnerDialer::new(),
     )?;
-    assert_eq!(rt; zero.status, 2);
-    assert_eq!(rt; zero.text.len(), 0);
+    assert!(rt; ends_with(&zero, 2, b""));
     let none = call(alloc, &[], EXAMPLE, FIRST_CALLS_FAIL, InnerDialer::new())?;
-    assert_eq!(rt; none.status, 2);
-    assert_eq!(rt; none.text.len(), 0);
+    assert!(rt; ends_with(&none, 2, b""));
     Ok(())
 }
 
@@ -286,8 +279,7 @@ fn a_failed_read_ends_with_4_and_a_failed_write_with_5(rt: HostRuntime) -> Resul
         writes: &[],
     };
     let read = call(alloc, &["serial"], EXAMPLE, fails, InnerDialer::new())?;
-    assert_eq!(rt; read.status, 4);
-    assert_eq!(rt; read.text.len(), 0);
+    assert!(rt; ends_with(&read, 4, b""));
     let whole = serial_over_inner(alloc, EXAMPLE)?;
     for n in 1..=11u64 {
         let writes = [n];
@@ -328,8 +320,7 @@ fn each_course_that_cannot_be_told_has_its_word(rt: HostRuntime) -> Result<(), F
         alloc,
         b"{\"peers\":[{\"host\":\"a.test\",\"port\":81,\"answers\":[{\"path\":\"/\",\"text\":\"ok\"}]}],\"channels\":[{\"calls\":[{\"call\":\"submit\",\"url\":\"http://a.test/\"}]}]}",
     )?;
-    assert_eq!(rt; dial.status, 8);
-    assert_eq!(rt; dial.text.as_slice(), b"unbuilt dial\n".as_slice());
+    assert!(rt; ends_with(&dial, 8, b"unbuilt dial\n"));
     let none = CallNos::new;
     assert!(rt;
         unbuilt(

@@ -215,20 +215,14 @@ fn a_background_exchange_waits_for_the_others(rt: HostRuntime) -> Result<(), Fai
     Ok(())
 }
 
-/// The shutdown is the entry at place 9.
-fn shut_at_nine(alloc: Global) -> Result<Rig, NoMem> {
+#[test]
+fn after_a_shutdown_its_place_is_told(rt: HostRuntime) -> Result<(), Fail> {
+    let alloc = rt.alloc();
     let mut rig = Rig::new(alloc, LIMITS);
     for _ in 0u32..8 {
         rig.then(1, Act::Network)?;
     }
     rig.then(999, shut(ShutReply::Noted))?;
-    Ok(rig)
-}
-
-#[test]
-fn after_a_shutdown_its_place_is_told(rt: HostRuntime) -> Result<(), Fail> {
-    let alloc = rt.alloc();
-    let mut rig = shut_at_nine(alloc)?;
     rig.bad(1, accepted(ask(alloc, PLAIN_A)?, 1))?;
     rig.bad(1, refused(ask(alloc, PLAIN_A)?, SubmitReply::Closed(8)))?;
     rig.then(1, refused(ask(alloc, PLAIN_A)?, SubmitReply::Closed(9)))?;
