@@ -1,6 +1,7 @@
 pub mod Above
 pub mod Back
 pub mod Digits
+pub mod Fitting
 pub mod Hosts
 pub mod Lists
 pub mod Marks
