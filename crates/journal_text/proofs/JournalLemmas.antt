@@ -9,13 +9,15 @@ use Rattle.pool_values.specs.declared.entry.Entry.{Entry}
 use Rattle.journal_words.specs.Words.{spaced_words}
 use Rattle.journal_words.proofs.Above.{decimal_above}
 use Rattle.journal_words.proofs.Marks.{apart_by}
-use Rattle.journal_text.specs.Lines.{act_words, entry_line, first_line, end_line, journal_text}
-use Rattle.journal_text.specs.Ranges.{EntryFits}
-use Rattle.journal_text.specs.Writable.{IsWritable}
+use Rattle.journal_lines.specs.Lines.{act_words, entry_line}
+use Rattle.journal_lines.specs.Ranges.{EntryFits}
+use Rattle.journal_lines.specs.Writable.{IsWritable}
+use Rattle.journal_lines.proofs.EntryBack.{line_in_line}
+use Rattle.journal_text.specs.Lines.{first_line, end_line, journal_text}
 use Rattle.journal_text.specs.Journals.{IsInLine, IsLineOf, IsLineOfNone, IsJournal, IsBadBehind, IsBadLine, IsCut, IsTruncated, RefusesJournal, lines_text}
 use Rattle.journal_text.specs.declared.faults.JournalFault.{JournalFault}
 use Rattle.journal_text.specs.declared.faults.JournalFault.TheVariants.{NoMem, BadLine, Truncated}
-use Rattle.journal_text.proofs.EntryBack.{line_in_line, entry_no_end}
+use Rattle.journal_text.proofs.EndApart.{entry_no_end}
 
 -- ---- lines
 
@@ -97,12 +99,16 @@ IsLeft text all rest =
 pub left_whole : (text : List ℕ) → IsLeft text [] text
 left_whole text h more writable fits is = (h, (refl, is))
 
+-- these entries can be read back, and their numbers are of their types
+abbrev pub AreGood : List Entry → Type 0
+AreGood es = All IsWritable es × All EntryFits es
+
 -- nothing is read yet
 pub begins : (text : List ℕ) (all : List Entry) → all ≡ []
-    → (text ≡ lines_of all ++ text) × (All IsWritable all × ((length all + length text ≤ length text) × IsLeft text all text))
+    → (text ≡ lines_of all ++ text) × (AreGood all × ((length all + length text ≤ length text) × IsLeft text all text))
 begins text all none =
-    subst (λ (es : List Entry). (text ≡ lines_of es ++ text) × (All IsWritable es × ((length es + length text ≤ length text) × IsLeft text es text)))
-    (sym none) (refl, (All-nil IsWritable, (omega arith, left_whole text)))
+    subst (λ (es : List Entry). (text ≡ lines_of es ++ text) × (AreGood es × ((length es + length text ≤ length text) × IsLeft text es text)))
+    (sym none) (refl, ((All-nil IsWritable, All-nil EntryFits), (omega arith, left_whole text)))
 
 module _ (text : List ℕ) (all : List Entry) (rest line behind : List ℕ) (left : IsLeft text all rest) (is : rest ≡ line ++ 10 ∷ behind) (one : IsInLine line)
     (small : length all ≤ 18446744073709551615) where
@@ -185,32 +191,34 @@ lines_and text all rest line behind whole is =
     ap (λ t. first_line ++ t) (whole ∙ ap (λ t. lines_of all ++ t) is ∙ sym (append_assoc (lines_of all) line (10 ∷ behind)))
 
 pub is_journal : (text : List ℕ) (all : List Entry) (rest line behind : List ℕ) → text ≡ lines_of all ++ rest → rest ≡ line ++ 10 ∷ behind
-    → line ++ 10 ∷ [] ≡ end_line (length all) → All IsWritable all → IsJournal (first_line ++ text) all
-is_journal text all rest line behind whole is end writable =
+    → line ++ 10 ∷ [] ≡ end_line (length all) → AreGood all → IsJournal (first_line ++ text) all
+is_journal text all rest line behind whole is end good =
     let last : rest ≡ end_line (length all) ++ behind = is ∙ sym (append_assoc line (10 ∷ []) behind) ∙ ap (λ t. t ++ behind) end in
     let joined = whole ∙ ap (λ t. lines_of all ++ t) last ∙ sym (append_assoc (lines_of all) (end_line (length all)) behind) in
-    (writable, (behind, ap (λ t. first_line ++ t) joined))
+    (good.0, good.1, (behind, ap (λ t. first_line ++ t) joined))
 
-pub is_cut : (text : List ℕ) (all : List Entry) (rest : List ℕ) → text ≡ lines_of all ++ rest → All IsWritable all → IsInLine rest
+pub is_cut : (text : List ℕ) (all : List Entry) (rest : List ℕ) → text ≡ lines_of all ++ rest → AreGood all → IsInLine rest
     → RefusesJournal (first_line ++ text) Truncated
-is_cut text all rest whole writable one =
+is_cut text all rest whole good one =
     inr (record {
       entries = all;
-      writable = writable;
+      writable = good.0;
+      fits = good.1;
       rest = rest;
       text = ap (λ t. first_line ++ t) whole;
       no_line = one;
     })
 
 pub is_bad : (text : List ℕ) (all : List Entry) (rest line behind : List ℕ) (fault : JournalFault) (n : ℕ) → text ≡ lines_of all ++ rest
-    → rest ≡ line ++ 10 ∷ behind → All IsWritable all → IsInLine line → line ++ 10 ∷ [] ≢ end_line (length all)
+    → rest ≡ line ++ 10 ∷ behind → AreGood all → IsInLine line → line ++ 10 ∷ [] ≢ end_line (length all)
     → n ≡ length all → (fault ≡ NoMem) ⊎ ((fault ≡ BadLine (n + 2)) × IsLineOfNone line) → RefusesJournal (first_line ++ text) fault
-is_bad text all rest line behind fault n whole is writable one no_end count (inl none) = subst (RefusesJournal (first_line ++ text)) (sym none) tt
-is_bad text all rest line behind fault n whole is writable one no_end count (inr bad) =
+is_bad text all rest line behind fault n whole is good one no_end count (inl none) = subst (RefusesJournal (first_line ++ text)) (sym none) tt
+is_bad text all rest line behind fault n whole is good one no_end count (inr bad) =
     subst (RefusesJournal (first_line ++ text)) (sym bad.0)
     (inr (record {
       entries = all;
-      writable = writable;
+      writable = good.0;
+      fits = good.1;
       line = line;
       rest = behind;
       text = lines_and text all rest line behind whole is;
@@ -228,8 +236,8 @@ lines_more text all rest line behind e whole is of =
     ∙ sym (append_assoc (lines_of all) (entry_line e) behind) ∙ ap (λ t. (lines_of all ++ t) ++ behind) (sym (append-nil (entry_line e)))
     ∙ ap (λ t. t ++ behind) (sym (flat_map-append entry_line all (e ∷ [])))
 
-pub all_more : (all : List Entry) (e : Entry) → All IsWritable all → IsWritable e → All IsWritable (all ++ e ∷ [])
-all_more all e writable last = All-append IsWritable all (e ∷ []) writable (All-cons IsWritable e [] last (All-nil IsWritable))
+all_more : (P : Entry → Type 0) (all : List Entry) (e : Entry) → All P all → P e → All P (all ++ e ∷ [])
+all_more P all e so_far last = All-append P all (e ∷ []) so_far (All-cons P e [] last (All-nil P))
 
 -- ---- one turn
 
@@ -241,18 +249,18 @@ shorter rest line behind is = let long = ap (λ (t : List ℕ). length t) is ∙
 
 -- what holds between two lines
 abbrev pub IsAt : List ℕ → List Entry → List ℕ → Type 0
-IsAt text all rest = (text ≡ lines_of all ++ rest) × (All IsWritable all × ((length all + length rest ≤ length text) × IsLeft text all rest))
+IsAt text all rest = (text ≡ lines_of all ++ rest) × (AreGood all × ((length all + length rest ≤ length text) × IsLeft text all rest))
 
 pub goes_on : (text : List ℕ) (all more : List Entry) (rest line behind : List ℕ) (e : Entry) → IsAt text all rest → rest ≡ line ++ 10 ∷ behind → IsInLine line
-    → length text + 10 < 2 ^ 64 → line ++ 10 ∷ [] ≢ end_line (length all) → IsLineOf line e → ((f : Entry) → EntryFits f → IsLineOf line f → e ≡ f)
-    → more ≡ all ++ e ∷ [] → IsAt text more behind
-goes_on text all more rest line behind e so_far is one small no_end of same longer =
+    → length text + 10 < 2 ^ 64 → line ++ 10 ∷ [] ≢ end_line (length all) → IsLineOf line e → EntryFits e
+    → ((f : Entry) → EntryFits f → IsLineOf line f → e ≡ f) → more ≡ all ++ e ∷ [] → IsAt text more behind
+goes_on text all more rest line behind e so_far is one small no_end of fits same longer =
     let long = ap (λ (t : List ℕ). length t) is ∙ length-append line (10 ∷ behind) in
     let count = length-append all (e ∷ []) in
     subst (λ (es : List Entry). IsAt text es behind) (sym longer) (
       lines_more text all rest line behind e so_far.0 is of,
       (
-        all_more all e so_far.1.0 of.1,
+        (all_more IsWritable all e so_far.1.0.0 of.1, all_more EntryFits all e so_far.1.0.1 fits),
         (
           omega (arith, long, count, so_far.1.1.0),
           left_more text all rest line behind so_far.1.1.1 is one (omega (arith, so_far.1.1.0, small)) e same no_end,

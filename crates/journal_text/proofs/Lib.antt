@@ -1,10 +1,3 @@
-pub mod ActAbove
-pub mod ActBack
-pub mod EntryBack
+pub mod EndApart
 pub mod JournalLemmas
-pub mod LineLemmas
 pub mod LineSteps
-pub mod OrderBack
-pub mod OrderLoop
-pub mod ReplyBack
-pub mod ReportBack

@@ -1,28 +1,28 @@
 -- What is known of a line once its words are read.
-use Rattle.std.proofs.Common.{◌≡◌, ◌⊎◌, inl, inr, ℕ, List, Bool, Result, Ok, Err, IfOk, IfErr, IsTrue, MatchResult, ◌↔◌, sym, subst, ◌∙◌}
+use Rattle.std.proofs.Common.{◌≡◌, ◌⊎◌, inl, inr, ℕ, List, [], ◌∷◌, ◌++◌, Bool, Result, Ok, Err, IfOk, IfErr, IsTrue, MatchResult, ◌↔◌, sym, subst, ◌∙◌}
 use Rattle.net_base.specs.declared.NoMem.{NoMem}
 use Rattle.pool_values.specs.declared.entry.Entry.{Entry}
 use Rattle.journal_words.specs.declared.faults.WordFault.{WordFault}
 use Rattle.journal_words.specs.declared.faults.WordFault.TheVariants as word
+use Rattle.journal_lines.specs.Lines.{entry_line}
+use Rattle.journal_lines.specs.Ranges.{EntryFits}
+use Rattle.journal_lines.specs.Writable.{IsWritable}
 use Rattle.journal_text.specs.Journals.{IsLineOf}
-use Rattle.journal_text.specs.LineReaders.{entry}
-use Rattle.journal_text.specs.Ranges.{EntryFits}
-use Rattle.journal_text.proofs.EntryBack.{entry_back}
 
--- a line is that of no entry but the one that its words are read as
-only_entry : (line : List ℕ) (e f : Entry) → entry line ≡ Ok e → EntryFits f → IsLineOf line f → e ≡ f
-only_entry line e f read fits of = let back = entry_back f fits of.1 line of.0 in cc
+-- the line is that of no other entry than this one
+abbrev pub IsOnly : List ℕ → Entry → Type 0
+IsOnly line e = (f : Entry) → EntryFits f → IsWritable f → line ++ 10 ∷ [] ≡ entry_line f → e ≡ f
 
-pub line_back : (line : List ℕ) (e : Entry) (r : Result Entry WordFault) → entry line ≡ Ok e → IfOk r (λ x. (x ≡ e) × IsLineOf line e)
+pub line_back : (line : List ℕ) (e : Entry) (r : Result Entry WordFault) → IsOnly line e → IfOk r (λ x. (x ≡ e) × IsLineOf line e)
     → IfErr r (λ f. (f ≡ word.NoMem) ⊎ ¬ (IsLineOf line e)) → (f : Entry) → EntryFits f → IsLineOf line f
     → MatchResult r (λ x. x ≡ f) (λ w. w ≡ word.NoMem)
-line_back line e (Ok x) read ok refused f fits of = ok.0 ∙ only_entry line e f read fits of
-line_back line e (Err w) read ok (inl none) f fits of = none
-line_back line e (Err w) read ok (inr not_of) f fits of = absurd (not_of (subst (IsLineOf line) (sym (only_entry line e f read fits of)) of))
+line_back line e (Ok x) only ok refused f fits of = ok.0 ∙ only f fits of.1 of.0
+line_back line e (Err w) only ok (inl none) f fits of = none
+line_back line e (Err w) only ok (inr not_of) f fits of = absurd (not_of (subst (IsLineOf line) (sym (only f fits of.1 of.0)) of))
 
-pub line_unread : (line : List ℕ) (w : WordFault) → (entry line ≡ Err w) ⊎ (w ≡ word.NoMem) → (f : Entry) → EntryFits f → IsLineOf line f → w ≡ word.NoMem
-line_unread line w (inl bad) f fits of = let back = entry_back f fits of.1 line of.0 in absurd (cc)
-line_unread line w (inr none) f fits of = none
+pub line_fits : (line : List ℕ) (e : Entry) (r : Result Entry WordFault) → EntryFits e → IfOk r (λ x. (x ≡ e) × IsLineOf line e) → IfOk r EntryFits
+line_fits line e (Ok x) fits ok = subst EntryFits (sym ok.0) fits
+line_fits line e (Err w) fits ok = tt
 
 -- two conditions of which the first holds
 pub and_first : (r : Result Bool NoMem) (A B : Type 0) → A → IfOk r (λ is. IsTrue is ↔ B) → IfOk r (λ is. IsTrue is ↔ (A × B))

@@ -3,9 +3,10 @@
 use Rattle.std.specs.Prelude.{◌≡◌, ◌≢◌, ◌⊎◌, ⊤, ℕ, ◌+◌, List, [], ◌∷◌, ◌++◌, length, All}
 use Rattle.std.specs.List.{flat_map}
 use Rattle.pool_values.specs.declared.entry.Entry.{Entry}
-use Rattle.journal_text.specs.Lines.{entry_line, first_line, end_line, journal_text}
-use Rattle.journal_text.specs.Ranges.{EntryFits}
-use Rattle.journal_text.specs.Writable.{IsWritable}
+use Rattle.journal_lines.specs.Lines.{entry_line}
+use Rattle.journal_lines.specs.Ranges.{EntryFits}
+use Rattle.journal_lines.specs.Writable.{IsWritable}
+use Rattle.journal_text.specs.Lines.{first_line, end_line, journal_text}
 use Rattle.journal_text.specs.declared.faults.JournalFault.{JournalFault}
 use Rattle.journal_text.specs.declared.faults.JournalFault.TheVariants.{NoMem, BadLine, Truncated}
 
@@ -25,9 +26,9 @@ IsLineOfNone line = (e : Entry) → EntryFits e → ¬ (IsLineOf line e)
 abbrev pub lines_text : List Entry → List ℕ
 lines_text h = first_line ++ flat_map entry_line h
 
--- the octets begin with the journal of this history, which can be read back
+-- the octets begin with the journal of this history, which can be read back, and whose numbers are of their types
 abbrev pub IsJournal : List ℕ → List Entry → Type 0
-IsJournal bytes h = All IsWritable h × ((rest : List ℕ) × (bytes ≡ journal_text h ++ rest))
+IsJournal bytes h = All IsWritable h × All EntryFits h × ((rest : List ℕ) × (bytes ≡ journal_text h ++ rest))
 
 -- the first line is another one
 abbrev pub HasOtherFormat : List ℕ → Type 0
@@ -37,6 +38,7 @@ HasOtherFormat bytes = (line rest : List ℕ) × (bytes ≡ line ++ 10 ∷ rest)
 pub record IsBadBehind (bytes : List ℕ) (n : ℕ) : Type 0 where
   pub entries : List Entry
   pub writable : All IsWritable entries
+  pub fits : All EntryFits entries
   pub line : List ℕ
   pub rest : List ℕ
   pub text : bytes ≡ lines_text entries ++ line ++ 10 ∷ rest
@@ -53,6 +55,7 @@ IsBadLine bytes n = (HasOtherFormat bytes × (n ≡ 1)) ⊎ IsBadBehind bytes n
 pub record IsCut (bytes : List ℕ) : Type 0 where
   pub entries : List Entry
   pub writable : All IsWritable entries
+  pub fits : All EntryFits entries
   pub rest : List ℕ
   pub text : bytes ≡ lines_text entries ++ rest
   pub no_line : IsInLine rest

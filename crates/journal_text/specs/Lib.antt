@@ -1,5 +1,2 @@
 pub mod Journals
-pub mod LineReaders
 pub mod Lines
-pub mod Ranges
-pub mod Writable

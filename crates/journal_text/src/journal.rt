@@ -1,24 +1,14 @@
-// Lines, and the journal of a history.
+// The journal of a history, written.
 ghost use Rattle.std.specs.Prelude.{◌≡◌, ◌++◌, IfOk, OnOk};
 ghost use Rattle.std.specs.List.{flat_map};
+ghost use Rattle.journal_lines.specs.Lines.{entry_line};
 ghost use Rattle.journal_text.specs.Lines as spec;
 
-use crate::acts::put_act;
-use journal_words::{number_text, put_number};
+use journal_lines::write_entry;
+use journal_words::number_text;
 use net_base::{NoMem, Octets};
 use pool_values::{Entry, History};
 use std::alloc::Global;
-
-/// Writes an entry as one line, with its LF: the moment in milliseconds, the caller, and the act with its reply.
-pub fn write_entry(alloc: Global, e: &Entry) -> Result<Octets, NoMem>
-    ensures { IfOk result (λ text. text ≡ spec.entry_line e.now) }
-{
-    let mut line = number_text(alloc, e.moment.0)?;
-    put_number(alloc, &mut line, u64::from(e.who.0))?;
-    put_act(alloc, &mut line, &e.act)?;
-    line.push(alloc, b'\n')?;
-    Ok(line)
-}
 
 /// Writes the journal of a history: the line of the format, a line for each entry, and `end` with their number.
 pub fn write_journal(alloc: Global, h: &History) -> Result<Octets, NoMem>
@@ -32,7 +22,7 @@ pub fn write_journal(alloc: Global, h: &History) -> Result<Octets, NoMem>
 }
 
 fn put_entries(alloc: Global, text: &mut Octets, entries: &[Entry]) -> Result<(), NoMem>
-    ensures { OnOk result (text.new ≡ text.old ++ flat_map spec.entry_line entries.now) }
+    ensures { OnOk result (text.new ≡ text.old ++ flat_map entry_line entries.now) }
 {
     for e in entries {
         let line = write_entry(alloc, e)?;

@@ -1,14 +1,15 @@
 // Lines and journals read back.
 ghost use Rattle.std.specs.Prelude.{ℕ, ◌≡◌, ◌⊎◌, ◌+◌, ◌<◌, ◌^◌, [], ◌∷◌, ◌++◌, List, All, length, IsTrue, IfOk, IfErr, MatchOption, MatchResult, ◌↔◌, codes};
+ghost use Rattle.journal_lines.specs.Lines.{entry_line};
+ghost use Rattle.journal_lines.specs.Ranges.{EntryFits};
+ghost use Rattle.journal_lines.specs.Writable.{IsWritable};
 ghost use Rattle.journal_text.specs.Journals.{IsInLine, IsLineOf, IsLineOfNone, IsJournal, RefusesJournal};
 ghost use Rattle.journal_text.specs.Lines as lines;
-ghost use Rattle.journal_text.specs.Ranges.{EntryFits};
-ghost use Rattle.journal_text.specs.Writable.{IsWritable};
 
 use crate::faults::JournalFault;
-use crate::journal::{end_line, write_entry};
-use crate::read_entry::read_words;
+use crate::journal::end_line;
 use crate::writable::is_writable;
+use journal_lines::{read_words, write_entry};
 use journal_words::WordFault;
 use net_base::{NoMem, Octets, PlainValue};
 use pool_values::{Entry, History};
@@ -43,7 +44,7 @@ fn is_whole(alloc: Global, line: &[u8], text: &Octets) -> Result<bool, NoMem>
 
 /// Whether the line is that of this entry.
 fn is_line_of(alloc: Global, line: &[u8], e: &Entry) -> Result<bool, NoMem>
-    ensures { IfOk result (λ is. IsTrue is ↔ (line.now ++ 10 ∷ [] ≡ lines.entry_line e.now)) }
+    ensures { IfOk result (λ is. IsTrue is ↔ (line.now ++ 10 ∷ [] ≡ entry_line e.now)) }
 {
     let written = write_entry(alloc, e)?;
     is_whole(alloc, line, &written)
@@ -84,6 +85,7 @@ fn if_of(alloc: Global, line: &[u8], e: Entry) -> Result<Entry, WordFault>
 /// entry.
 fn read_line(alloc: Global, line: &[u8]) -> Result<Entry, WordFault>
     ensures ok { IfOk result (IsLineOf line.now) }
+    ensures fits { IfOk result EntryFits }
     ensures back { (e : Entry) → EntryFits e → IsLineOf line.now e → MatchResult result (λ r. r ≡ e) (λ f. f ≡ WordFault.NoMem) }
 {
     match read_words(alloc, line) {
@@ -96,6 +98,7 @@ fn read_line(alloc: Global, line: &[u8]) -> Result<Entry, WordFault>
 fn entry_behind(alloc: Global, line: &[u8], n: usize) -> Result<Entry, JournalFault>
     requires { n + 2 < 2 ^ 64 }
     ensures ok { IfOk result (IsLineOf line.now) }
+    ensures fits { IfOk result EntryFits }
     ensures refused { IfErr result (λ f. (f ≡ JournalFault.NoMem) ⊎ ((f ≡ JournalFault.BadLine (n + 2)) × IsLineOfNone line.now)) }
     ensures back { (e : Entry) → EntryFits e → IsLineOf line.now e → MatchResult result (λ r. r ≡ e) (λ f. f ≡ JournalFault.NoMem) }
 {

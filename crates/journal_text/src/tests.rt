@@ -188,6 +188,16 @@ fn callers_acts(l: &mut Lines) -> Result<(), NoMem> {
         act,
         "10 2 resolved https://top.test a.test 00000000000000000000000000000000,ffffffffffffffffffffffffffffffff = noted\n",
     )?;
+    let act = Act::Resolved {
+        key: key(l.alloc)?,
+        host: octets(l.alloc, "a.test")?,
+        addresses: Addresses::new(),
+        reply: ResolvedReply::TooMany(17),
+    };
+    l.is(
+        act,
+        "10 2 resolved https://top.test a.test - = too-many 17\n",
+    )?;
     l.is(Act::Network, "10 2 network\n")?;
     l.is(Act::Tick, "10 2 tick\n")?;
     let reply = ShutReply::Closed(9);
@@ -319,12 +329,44 @@ fn other_reports(l: &mut Lines) -> Result<(), NoMem> {
     )
 }
 
+/// A connection without names, and an answer with nothing but a body and trailers.
+fn bare_reports(l: &mut Lines) -> Result<(), NoMem> {
+    let identity = Identity {
+        names: Names::new(),
+        secure: false,
+        proto: Proto::H1,
+        address: [0, 0, 0, 0, 0, 0, 0, 0, 0, 0, 255, 255, 127, 0, 0, 1],
+    };
+    l.report(
+        Report::Opened(identity),
+        "10 2 opened 1 32 clear h1 00000000000000000000ffff7f000001 -\n",
+    )?;
+    let response = Response {
+        status: 200,
+        fields: Fields::new(),
+        body: octets(l.alloc, "ok")?,
+        trailers: two_fields(l.alloc)?,
+    };
+    let report = Report::Answered {
+        stream: StreamNo(3),
+        response,
+        keep: true,
+        alt: AltUpdate::None,
+        proof: Proof::NotAsked,
+    };
+    l.report(
+        report,
+        "10 2 answered 1 32 3 keep 200 - 6f6b x:797a,empty: none none\n",
+    )
+}
+
 #[test]
 fn reports_have_their_lines(rt: HostRuntime) -> Result<(), Fail> {
     let alloc = rt.alloc();
     let mut l = Lines { alloc, wrong: None };
     plain_reports(&mut l)?;
     other_reports(&mut l)?;
+    bare_reports(&mut l)?;
     assert_eq!(rt; l.wrong, None);
     Ok(())
 }
@@ -384,7 +426,7 @@ struct Refused {
     fault: JournalFault,
 }
 
-const REFUSED: [Refused; 22] = [
+const REFUSED: [Refused; 25] = [
     Refused {
         text: "",
         fault: JournalFault::Truncated,
@@ -427,6 +469,18 @@ const REFUSED: [Refused; 22] = [
     },
     Refused {
         text: "poolrun 1\n0 4294967296 tick\nend 1\n",
+        fault: JournalFault::BadLine(2),
+    },
+    Refused {
+        text: "poolrun 1\n0 1 reprioritise 1 256 = changed\nend 1\n",
+        fault: JournalFault::BadLine(2),
+    },
+    Refused {
+        text: "poolrun 1\n0 1 reprioritise 1 256 = changed\n0 1 tock\nend 2\n",
+        fault: JournalFault::BadLine(2),
+    },
+    Refused {
+        text: "poolrun 1\n0 1 reprioritise 1 256 = changed\n",
         fault: JournalFault::BadLine(2),
     },
     Refused {

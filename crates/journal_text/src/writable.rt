@@ -5,7 +5,7 @@ ghost use Rattle.net_base.specs.Identities as identities;
 ghost use Rattle.net_base.specs.Requests as requests;
 ghost use Rattle.partition_keys.specs.Sites.{IsSite};
 ghost use Rattle.journal_words.specs.Writable as words;
-ghost use Rattle.journal_text.specs.Writable as spec;
+ghost use Rattle.journal_lines.specs.Writable as spec;
 
 use http_header::is_token;
 use net_base::{Field, Fields, Names, NoMem, PlainValue, Request, Response, is_name};

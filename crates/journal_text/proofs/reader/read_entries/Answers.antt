@@ -48,7 +48,7 @@ loop-cut-preserved c =
     goes_on c.args.text.now c.loop-cut.all c.push.new.self c.loop-cut.rest.now cut.line.now cut.behind.now c.in-Ok.e c.loop-cut.invariant
     c.in-Some.ensures.0 c.in-Some.ensures.1 c.requires
     (not_end c.in_ok-is_end.field-0 cut.line.now c.len.result (length c.loop-cut.all) c.if-branch.false c.in_ok-is_end.ensures c.len.ensures)
-    c.in-Ok.ensures.ok c.in-Ok.ensures.back c.in_ok-push-in-Ok.ensures.ok
+    c.in-Ok.ensures.ok c.in-Ok.ensures.fits c.in-Ok.ensures.back c.in_ok-push-in-Ok.ensures.ok
 
 pub returns-clause-refused : goal.returns-clause-refused
 returns-clause-refused c =

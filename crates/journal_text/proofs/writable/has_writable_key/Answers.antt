@@ -1,6 +1,6 @@
 use Rattle.std.proofs.Common.{IfOk, IsTrue, ◌↔◌, sym, subst}
 use Rattle.pool_values.specs.declared.entry.Act.{Act}
-use Rattle.journal_text.specs.Writable.{HasWritableKey}
+use Rattle.journal_lines.specs.Writable.{HasWritableKey}
 use Rattle.journal_text.proofs.writable.has_writable_key.Goals as goal
 
 pub returns-in-Submit : goal.returns-in-Submit

@@ -1,5 +1,5 @@
 use Rattle.std.proofs.Common.{sym, ◌∙◌}
-use Rattle.journal_text.specs.Writable.{HasWritableKey}
+use Rattle.journal_lines.specs.Writable.{HasWritableKey}
 use Rattle.journal_text.proofs.LineSteps.{and_first}
 use Rattle.journal_text.proofs.writable.is_writable.Goals as goal
 

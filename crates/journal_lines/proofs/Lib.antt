@@ -1,0 +1,9 @@
+pub mod ActAbove
+pub mod ActBack
+pub mod EntryBack
+pub mod Fitting
+pub mod LineLemmas
+pub mod OrderBack
+pub mod OrderLoop
+pub mod ReplyBack
+pub mod ReportBack

@@ -1,0 +1,4 @@
+pub mod LineReaders
+pub mod Lines
+pub mod Ranges
+pub mod Writable
