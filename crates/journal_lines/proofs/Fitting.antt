@@ -1,23 +1,19 @@
 -- What is read of a line fits: each number of the entry is of its type, and its octets are octets.
-use Rattle.std.proofs.Common.{ℕ, zero, suc, true, false, List, [], ◌∷◌, codes, length, All, Result, Ok, Err, IfOk}
+use Rattle.std.proofs.Common.{ℕ, zero, suc, true, false, List, [], ◌∷◌, codes, length, All, IfOk}
 use Rattle.std.proofs.lemmas.List.Elements.{All-nil, All-cons}
 use Rattle.hex.specs.Hex.{IsBytes}
 use Rattle.net_base.specs.declared.numbers.ConnNo.{ConnNo}
 use Rattle.net_base.specs.declared.numbers.ExchangeNo.{ExchangeNo}
 use Rattle.net_base.specs.declared.numbers.StreamNo.{StreamNo}
 use Rattle.net_base.specs.declared.request.Request.{Request}
-use Rattle.pool_values.specs.declared.entry.Act.{Act}
-use Rattle.pool_values.specs.declared.entry.Entry.{Entry}
 use Rattle.pool_values.specs.declared.order.OrderMark.{OrderMark}
 use Rattle.pool_values.specs.declared.reply.SubmitReply.{SubmitReply}
-use Rattle.pool_values.specs.declared.report.Report.{Report}
 use Rattle.journal_words.specs.Ranges.{Fits8, Fits16, Fits32, Fits64, FieldFits, AddressFits, DeadlineFits, AltFits, ProofFits, CauseFits}
 use Rattle.journal_words.specs.Readers.{field, address, stream, parts, key, credentials, either_word, security, proto, list, name, way_of}
-use Rattle.journal_words.specs.declared.faults.WordFault.{WordFault}
-use Rattle.journal_lines.specs.LineReaders.{small, large, exchange, conn, submit_reply, submit_reply_at, cancel_reply, change_reply, preconnect_reply, resolved_reply, resolved_reply_at, shut_reply, asked, asked_at, behind_equals, behind_six, terms, terms_at, submit, cancel, reprioritise, preconnect, resolved_at, shutdown, start, start_mark, reset_mark, reset_or_start, order_mark, order_marks_within, order_marks, dial, orders, closed, opened, limit, response, alt_words_in, behind_alt, answered, reset, alt_seen, told_of, stream_report, report_at, reported, expire, lapse, assign, want, evict, settling, work, call, entry_at, entry}
+use Rattle.journal_lines.specs.LineReaders.{small, large, exchange, conn, submit_reply, submit_reply_at, cancel_reply, change_reply, preconnect_reply, resolved_reply, resolved_reply_at, shut_reply, asked, asked_at, behind_equals, behind_six, terms, terms_at, submit, cancel, reprioritise, preconnect, resolved_at, shutdown, start, start_mark, reset_mark, reset_or_start, order_mark, order_marks_within, dial, orders, closed, opened, limit, response, alt_words_in, behind_alt, answered, reset, alt_seen, told_of, stream_report, report_at, reported, expire, lapse, assign, want, evict, settling, work, call, entry_at, entry}
 use Rattle.journal_lines.specs.Ranges.{RequestFits, ResponseFits, MarkFits, SubmitReplyFits, PreconnectReplyFits, ResolvedReplyFits, ShutReplyFits, ReportFits, ActFits, EntryFits}
 use Rattle.journal_lines.specs.declared.read_calls.Terms.{Terms}
-use Rattle.journal_words.proofs.Fitting.{step, past, by_word, of_given, number_fits, MomentFits, moment_fits, deadline_fits, StreamFits, stream_fits, octets_fits, address_fits, list_fits, field_fits, OriginFits, origin_fits, TargetFits, target_fits, alt_of_fits, proof_of_fits, cause_fits}
+use Rattle.journal_words.proofs.Fitting.{step, past, by_word, number_fits, MomentFits, moment_fits, deadline_fits, StreamFits, stream_fits, octets_fits, address_fits, list_fits, field_fits, OriginFits, origin_fits, TargetFits, target_fits, alt_of_fits, proof_of_fits, cause_fits}
 
 -- ---- numbers
 

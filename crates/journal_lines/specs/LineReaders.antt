@@ -1,16 +1,12 @@
 -- How lines are read back, act by act: what the journal writes of an act is read as that act. As with words (`Readers`), more
 -- than that may be read, so what was read is written again and compared.
-use Rattle.std.specs.Prelude.{◌≡◌, ◌⊎◌, MatchResult, drop, ℕ, zero, suc, Bool, true, false, List, [], ◌∷◌, codes, bytes_eq, length, Option, Some, None, Result, Ok, Err, if◌then◌else◌}
+use Rattle.std.specs.Prelude.{◌≡◌, ◌⊎◌, MatchResult, drop, ℕ, zero, suc, true, false, List, [], ◌∷◌, codes, bytes_eq, length, Result, Ok, Err, if◌then◌else◌}
 use Rattle.net_base.specs.Results.{◌>>=◌}
-use Rattle.net_base.specs.declared.identity.Identity.{Identity}
-use Rattle.net_base.specs.declared.numbers.CallerNo.{CallerNo}
 use Rattle.net_base.specs.declared.numbers.ConnNo.{ConnNo}
 use Rattle.net_base.specs.declared.numbers.ExchangeNo.{ExchangeNo}
 use Rattle.net_base.specs.declared.numbers.StreamNo.{StreamNo}
 use Rattle.net_base.specs.declared.request.Request.{Request}
 use Rattle.net_base.specs.declared.response.Response.{Response}
-use Rattle.partition_keys.specs.declared.alternative.AltUpdate.{AltUpdate}
-use Rattle.partition_keys.specs.declared.alternative.Proof.{Proof}
 use Rattle.pool_values.specs.declared.entry.Act.{Act}
 use Rattle.pool_values.specs.declared.entry.Act.TheVariants as act
 use Rattle.pool_values.specs.declared.entry.Entry.{Entry}

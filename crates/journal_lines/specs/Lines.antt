@@ -1,6 +1,6 @@
 -- The line of an entry in a journal, format 1: its words parted by one space, and LF (10) behind them. The format is this
 -- project's own; the sections say what the values are. Of a partition key only the site is written.
-use Rattle.std.specs.Prelude.{ℕ, Bool, List, [], ◌∷◌, ◌++◌, codes, length, if◌then◌else◌}
+use Rattle.std.specs.Prelude.{ℕ, Bool, List, [], ◌∷◌, ◌++◌, codes, if◌then◌else◌}
 use Rattle.std.specs.List.{flat_map}
 use Rattle.std.specs.Fmt.{decimal}
 use Rattle.hex.specs.Hex.{encode_lower}

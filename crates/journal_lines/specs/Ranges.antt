@@ -1,6 +1,6 @@
 -- What each entry that a program holds is known to be: its numbers are of their types, and its octets are octets. What is said
 -- of all entries needs it, since those of statements may hold any numbers.
-use Rattle.std.specs.Prelude.{⊤, List, All}
+use Rattle.std.specs.Prelude.{⊤, All}
 use Rattle.hex.specs.Hex.{IsBytes}
 use Rattle.journal_words.specs.Ranges.{Fits8, Fits16, Fits32, Fits64, FieldFits, AddressFits, AltFits, ProofFits, CauseFits, DeadlineFits}
 use Rattle.net_base.specs.declared.request.Request.{Request}

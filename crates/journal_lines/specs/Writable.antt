@@ -1,6 +1,6 @@
 -- Which entries have a line that is read back as them: those whose values have words that are (`Writable` of `journal_words`), and
 -- whose orders are some.
-use Rattle.std.specs.Prelude.{◌≡◌, ⊤, ◌&&◌, nat_lt, Bool, true, List, length, None, IsTrue}
+use Rattle.std.specs.Prelude.{◌≡◌, ⊤, ◌&&◌, nat_lt, Bool, true, length, None, IsTrue}
 use Rattle.net_base.specs.Requests.{is_token}
 use Rattle.net_base.specs.declared.request.Request.{Request}
 use Rattle.net_base.specs.declared.response.Response.{Response}

@@ -1,5 +1,5 @@
 -- Journals read line by line.
-use Rattle.std.proofs.Common.{◌≡◌, ◌≢◌, ◌⊎◌, inl, inr, ℕ, ◌+◌, ◌^◌, Bool, true, false, IsTrue, ◌↔◌, ◌≤◌, ◌<◌, List, [], ◌∷◌, ◌++◌, codes, length, length-append, All, MatchResult, Result, Ok, Err, append_assoc, append-nil, refl, ap, sym, subst, ◌∙◌, arith}
+use Rattle.std.proofs.Common.{◌≡◌, ◌≢◌, ◌⊎◌, inl, inr, ℕ, ◌+◌, ◌^◌, Bool, true, false, IsTrue, ◌↔◌, ◌≤◌, ◌<◌, List, [], ◌∷◌, ◌++◌, codes, length, length-append, All, append_assoc, append-nil, refl, ap, sym, subst, ◌∙◌, arith}
 use Rattle.std.specs.List.{flat_map}
 use Rattle.std.specs.Fmt.{decimal}
 use Rattle.std.proofs.lemmas.List.{append_cancel_left, append_cancel_right}
@@ -14,7 +14,7 @@ use Rattle.journal_lines.specs.Ranges.{EntryFits}
 use Rattle.journal_lines.specs.Writable.{IsWritable}
 use Rattle.journal_lines.proofs.EntryBack.{line_in_line}
 use Rattle.journal_text.specs.Lines.{first_line, end_line, journal_text}
-use Rattle.journal_text.specs.Journals.{IsInLine, IsLineOf, IsLineOfNone, IsJournal, IsBadBehind, IsBadLine, IsCut, IsTruncated, RefusesJournal, lines_text}
+use Rattle.journal_text.specs.Journals.{IsInLine, IsLineOf, IsLineOfNone, IsJournal, RefusesJournal, lines_text}
 use Rattle.journal_text.specs.declared.faults.JournalFault.{JournalFault}
 use Rattle.journal_text.specs.declared.faults.JournalFault.TheVariants.{NoMem, BadLine, Truncated}
 use Rattle.journal_text.proofs.EndApart.{entry_no_end}

@@ -1,4 +1,4 @@
-use Rattle.std.proofs.Common.{List, ℕ, map, drop, length, sym, ap, subst, ◌∙◌, arith}
+use Rattle.std.proofs.Common.{List, ℕ, map, length, sym, ap, subst, ◌∙◌}
 use Rattle.std.specs.Borrow.{Bor}
 use Rattle.std.proofs.lemmas.List.{drop-map, length-drop}
 use Rattle.journal_lines.specs.LineReaders.{GivesMark}
