@@ -1,0 +1,63 @@
+-- A connection never goes back, and one that is gone stays gone.
+use Rattle.std.proofs.Common.{◌≡◌, ◌≤◌, arith, Option, Some, None, Bool, true, false, refl, ap, IsSomeAnd}
+use Rattle.net_base.specs.declared.numbers.ConnNo.{ConnNo}
+use Rattle.pool_laws.proofs.CourseLemmas.{state_later}
+use Rattle.pool_laws.proofs.FitLemmas.{closes, fit_stand}
+use Rattle.pool_laws.proofs.StayLemmas.{TurnsAt}
+use Rattle.pool_laws.proofs.TurnLemmas.{no_claim, turned_act}
+use Rattle.pool_laws.specs.Courses.{state_at, OfConnection}
+use Rattle.pool_laws.specs.EndLaws.{stage_of, ConnectionsGoForward, GoneStaysGone}
+use Rattle.pool_rules.specs.Histories.{MayStand}
+use Rattle.pool_steps.specs.After.{noted, after, after_act}
+use Rattle.pool_ways.proofs.NumberLemmas.{and_value}
+use Rattle.pool_ways.specs.Lists.{numbered}
+use Rattle.pool_ways.specs.Statuses.{is_gone}
+use Rattle.pool_values.specs.declared.entry.Entry.{Entry}
+use Rattle.pool_values.specs.declared.state.AbstractPool.{AbstractPool}
+use Rattle.pool_values.specs.declared.state.Connection.{Connection}
+use Rattle.pool_values.specs.declared.state.Phase.{Phase}
+use Rattle.pool_values.specs.declared.state.Phase.TheVariants.{Wanted, Dialing, Open, Draining, Closing, Gone}
+
+is_then_gone : (p : Phase) → is_gone p ≡ true → p ≡ Gone
+is_then_gone Wanted h = absurd cc
+is_then_gone Dialing h = absurd cc
+is_then_gone Open h = absurd cc
+is_then_gone Draining h = absurd cc
+is_then_gone Closing h = absurd cc
+is_then_gone Gone h = refl
+
+abbrev IsGoneAt : Option Connection → Type 0
+IsGoneAt o = IsSomeAnd o (λ y. y.phase ≡ Gone)
+
+gone_turned : (closed : Bool) (o p : Option Connection) → TurnsAt false closed o p → IsGoneAt o → IsGoneAt p
+gone_turned closed None p k h = absurd h
+gone_turned closed (Some x) None k h = absurd k
+gone_turned closed (Some x) (Some y) k h = is_then_gone y.phase (k.final (ap (λ (p : Phase). is_gone p) h))
+
+pub gone_after : (c : ConnNo) (s : AbstractPool) (e : Entry) → MayStand s e → OfConnection s c (λ y. y.phase ≡ Gone) → OfConnection (after s e) c (λ y. y.phase ≡ Gone)
+unfolding after noted
+gone_after c s e stand h =
+    let t : AbstractPool = noted s e.moment in
+    gone_turned (closes e.act c.0) (numbered c.0 t.connections) (numbered c.0 (after_act t e.who e.act).connections)
+    (turned_act false t e.who e.act (no_claim t) (fit_stand s e stand) c.0) h
+
+forward_turned : (p : Phase) (closed : Bool) (o q : Option Connection) → TurnsAt false closed o q → IsSomeAnd o (λ y. stage_of p ≤ stage_of y.phase) → IsSomeAnd q (λ y. stage_of p ≤ stage_of y.phase)
+forward_turned p closed None q k h = absurd h
+forward_turned p closed (Some x) None k h = absurd k
+forward_turned p closed (Some x) (Some y) k h = omega (arith, k.forward, h)
+
+forward_after : (c : ConnNo) (p : Phase) (s : AbstractPool) (e : Entry) → MayStand s e → OfConnection s c (λ y. stage_of p ≤ stage_of y.phase) →
+    OfConnection (after s e) c (λ y. stage_of p ≤ stage_of y.phase)
+unfolding after noted
+forward_after c p s e stand h =
+    let t : AbstractPool = noted s e.moment in
+    forward_turned p (closes e.act c.0) (numbered c.0 t.connections) (numbered c.0 (after_act t e.who e.act).connections)
+    (turned_act false t e.who e.act (no_claim t) (fit_stand s e stand) c.0) h
+
+pub connections_go_forward : ConnectionsGoForward
+connections_go_forward config h n m c x history later is_item =
+    state_later config h n m (λ s. OfConnection s c (λ y. stage_of x.phase ≤ stage_of y.phase)) history (forward_after c x.phase) later
+    (and_value (numbered c.0 (state_at config h n).connections) (λ y. stage_of x.phase ≤ stage_of y.phase) x is_item (omega arith))
+
+pub gone_stays_gone : GoneStaysGone
+gone_stays_gone config h n m c history later here = state_later config h n m (λ s. OfConnection s c (λ y. y.phase ≡ Gone)) history (gone_after c) later here

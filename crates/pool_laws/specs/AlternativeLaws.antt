@@ -1,0 +1,49 @@
+-- Alternative services (RFC 7838) and opportunistic security (RFC 8164).
+use Rattle.std.specs.Prelude.{◌≡◌, ◌<◌, ◌≤◌, ◌⊎◌, ℕ, List, true, IsTrue, Contains, length}
+use Rattle.net_base.specs.declared.numbers.ConnNo.{ConnNo}
+use Rattle.net_base.specs.declared.numbers.ExchangeNo.{ExchangeNo}
+use Rattle.net_base.specs.declared.numbers.Moment.{Moment}
+use Rattle.net_base.specs.declared.numbers.StreamNo.{StreamNo}
+use Rattle.net_base.specs.declared.origin.Scheme.TheVariants.{Http}
+use Rattle.net_base.specs.declared.target.Proto.TheVariants.{H2}
+use Rattle.partition_keys.specs.Freshness.{is_fresh}
+use Rattle.partition_keys.specs.declared.alternative.Alternative.{Alternative}
+use Rattle.pool_laws.specs.ApartLaws.{AnswersFor}
+use Rattle.pool_laws.specs.Courses.{state_at, Comes, OfBoth}
+use Rattle.pool_rules.specs.Histories.{IsHistory}
+use Rattle.pool_values.specs.declared.config.Config.{Config}
+use Rattle.pool_values.specs.declared.entry.Act.TheVariants.{Assign}
+use Rattle.pool_values.specs.declared.entry.Entry.{Entry}
+use Rattle.pool_values.specs.declared.entry.Way.TheVariants as way
+use Rattle.pool_values.specs.declared.state.AbstractPool.{AbstractPool}
+use Rattle.pool_values.specs.declared.state.Connection.{Connection}
+use Rattle.pool_values.specs.declared.state.Exchange.{Exchange}
+use Rattle.pool_ways.specs.Ways.{alternatives_of, alternative_target}
+
+-- RFC 8164, sections 2 and 2.1: over this alternative http may go, to a server that has proven it, or for the proof itself
+pub record IsOpportune (now : Moment) (x : Exchange) (a : Alternative) : Type 0 where
+  pub h2 : a.proto ≡ H2
+  pub proven : (now.0 < a.proven_until.0) ⊎ (x.ask.probe ≡ true)
+
+-- the connection goes to an alternative of the exchange's origin that is fresh at this state (RFC 7838, sections 2.2 and 2.4; that an
+-- open connection isn't used on afterwards is this project's own), speaks its protocol and answers for the origin's host (RFC 7838,
+-- sections 2.1 and 2.4; RFC 8164, section 2.1), and for http is opportune
+pub record GoesToFreshAlternative (s : AbstractPool) (x : Exchange) (y : Connection) : Type 0 where
+  pub alternative : Alternative
+  pub is_one : Contains (alternatives_of s x.ask.key x.ask.request.origin) alternative
+  pub fresh : IsTrue (is_fresh alternative s.latest)
+  pub target : y.group.target ≡ alternative_target alternative
+  pub authority : AnswersFor x.ask.request.origin.host y.identity
+  pub protocol : authority.identity.proto ≡ alternative.proto
+  pub opportune : x.ask.request.origin.scheme ≡ Http → IsOpportune s.latest x alternative
+
+-- at each Assign of a history by the alternative way
+abbrev pub AlternativesAreFresh : Type 0
+AlternativesAreFresh =
+    (config : Config) (h : List Entry) (n : ℕ) (e : Entry) (x : ExchangeNo) (c : ConnNo) (r : StreamNo) →
+    Comes config h n e → e.act ≡ Assign x c r way.Alternative → OfBoth (state_at config h n) x c (GoesToFreshAlternative (state_at config h n))
+
+-- at each state of a history at most 1024 pairs of a partition key and an origin have alternatives. The number is this project's
+-- own
+abbrev pub AlternativesAreFew : Type 0
+AlternativesAreFew = (config : Config) (h : List Entry) (n : ℕ) → IsHistory config h → length (state_at config h n).alternatives ≤ 1024

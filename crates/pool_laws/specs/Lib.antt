@@ -1,0 +1,11 @@
+pub mod AlternativeLaws
+pub mod ApartLaws
+pub mod Courses
+pub mod EndLaws
+pub mod LeaseLaws
+pub mod LimitLaws
+pub mod MoveLaws
+pub mod PlaceLaws
+pub mod SettlingLaws
+pub mod Sound
+pub mod WorkerLaws

@@ -1,0 +1,30 @@
+// Ends are final: of exchanges, of connections, and of the pool.
+ghost use Rattle.pool_laws.specs.EndLaws.{EndedStaysEnded, GoneStaysGone, ConnectionsGoForward, NothingBeginsAfterShutdown, NothingIsOpenAfterShutdown};
+
+/// In a history an exchange that has ended stays so, with its outcome.
+#[tactic(auto, using(crate::proofs::EndedLemmas::ended_stays_ended))]
+pub fn ended_stays_ended()
+    ensures { EndedStaysEnded }
+{}
+
+/// In a history a connection that is gone stays gone.
+#[tactic(auto, using(crate::proofs::GoneLemmas::gone_stays_gone))]
+pub fn gone_stays_gone()
+    ensures { GoneStaysGone }
+{}
+
+/// In a history a connection never goes back in the order of its phases: one that drains or closes isn't open again.
+pub fn connections_go_forward()
+    ensures { ConnectionsGoForward }
+{}
+
+/// Behind the shutdown of a history no submission is accepted, no connection is opened ahead, wanted or dialed, and no exchange is
+/// assigned.
+pub fn nothing_begins_after_shutdown()
+    ensures { NothingBeginsAfterShutdown }
+{}
+
+/// Behind the shutdown of a history every exchange has ended, and no connection is wanted, open or draining.
+pub fn nothing_is_open_after_shutdown()
+    ensures { NothingIsOpenAfterShutdown }
+{}

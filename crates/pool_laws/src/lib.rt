@@ -1,0 +1,16 @@
+//! What a reader may conclude from the definitions of the abstract pool: laws that hold of every history, or of every state.
+//! Each stands in `specs/` in the subject's own words, and is the contract of one function here, which computes nothing.
+//! `specs/Sound` has what holds of every state that a history goes through. Partitions follow the Fetch Standard
+//! (connections), authority RFC 9110, moves RFC 9110 and 9113, alternatives RFC 7838 and 8164; limits, ranks and the order of
+//! settling are this project's own.
+#![tactic(auto)]
+
+pub mod assigns;
+pub mod ends;
+pub mod leases;
+pub mod limits;
+pub mod moves;
+pub mod places;
+pub mod settling;
+pub mod sound;
+pub mod workers;

@@ -1,0 +1,18 @@
+// A worker's turn stays lawful, whatever others do meanwhile.
+ghost use Rattle.pool_laws.specs.WorkerLaws.{WorkersWordsStayLegal, WorkersMayGoOnAsking, OthersChangeNoOwnCalls};
+
+/// A worker's report, or its giving up of its connection, stays legal when a history goes on by entries of others.
+pub fn workers_words_stay_legal()
+    ensures { WorkersWordsStayLegal }
+{}
+
+/// A worker that may ask for the orders of its connection may still ask when a history goes on by entries of others.
+#[tactic(auto, using(crate::proofs::WorkerLemmas::workers_may_go_on_asking))]
+pub fn workers_may_go_on_asking()
+    ensures { WorkersMayGoOnAsking }
+{}
+
+/// Entries of others change nothing of what is read off a history as a caller's own calls.
+pub fn others_change_no_own_calls()
+    ensures { OthersChangeNoOwnCalls }
+{}
