@@ -25,7 +25,8 @@ MovesAreLawful =
     numbered number (state_at config h n).exchanges ≡ Some x → IsTrue (is_leased x.status) →
     numbered number (state_at config h (n + 1)).exchanges ≡ Some y → IsTrue (is_waiting y.status) → IsTrue (may_move x e.act)
 
--- the method isn't idempotent, octets of its answer were heard, or it was sent again before (RFC 9110, section 9.2.2)
+-- the method isn't idempotent, octets of its answer were heard, or it was sent again once after a connection ended (RFC 9110, section
+-- 9.2.2)
 abbrev pub MayNotBeSentAgain : Exchange → StreamNo → List StreamNo → Type 0
 MayNotBeSentAgain x r heard = (¬ IsTrue (is_idempotent_method x.ask.request.method)) ⊎ (Contains heard r ⊎ (x.retried ≡ true))
 

@@ -10,8 +10,9 @@ pub fn keeps_apart()
     ensures { KeepsApart }
 {}
 
-/// At each Assign of a history by the alternative way the connection goes to a fresh alternative of the exchange's origin,
-/// which for http is an HTTP/2 one that is proven, or the exchange is a probe.
+/// At each Assign of a history by the alternative way the connection goes to a fresh alternative of the exchange's origin in
+/// its partition, speaks its protocol, and has a secure identity that covers the origin's host. For http the alternative
+/// speaks HTTP/2, and it is proven or the exchange is a probe.
 #[tactic(auto, using(crate::proofs::AssignedLemmas::alternatives_are_fresh))]
 pub fn alternatives_are_fresh()
     ensures { AlternativesAreFresh }

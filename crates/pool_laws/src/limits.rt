@@ -15,7 +15,8 @@ pub fn connections_stay_within_limits()
     ensures { ConnectionsStayWithinLimits }
 {}
 
-/// At each Assign of a history the connection's live streams are below both limits on HTTP/2, and none on HTTP/1.1.
+/// At each Assign of a history the connection's live streams are fewer than the peer allows and than `streams` of the limits on
+/// HTTP/2, and none on HTTP/1.1, and its next stream is at most `last_stream`.
 #[tactic(auto, using(crate::proofs::AssignedLemmas::assigns_have_place))]
 pub fn assigns_have_place()
     ensures { AssignsHavePlace }

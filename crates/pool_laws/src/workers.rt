@@ -12,7 +12,8 @@ pub fn workers_may_go_on_asking()
     ensures { WorkersMayGoOnAsking }
 {}
 
-/// Entries of others change nothing of what is read off a history as a caller's own calls.
+/// Entries of others change nothing of what is read off a list of entries as a caller's own calls, nor of the orders that these
+/// gave it.
 pub fn others_change_no_own_calls()
     ensures { OthersChangeNoOwnCalls }
 {}
