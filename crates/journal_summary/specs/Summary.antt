@@ -1,5 +1,5 @@
--- The summary of a history: seven lines, each a name, one space (32), a number in decimal and LF (10). The format is this
--- project's own.
+-- The summary of a list of entries: seven lines, each a name, one space (32), a number in decimal and LF (10). The format is
+-- this project's own.
 use Rattle.std.specs.Prelude.{ℕ, Bool, true, false, not, ◌&&◌, List, [], ◌∷◌, ◌++◌, codes, length, count_by, sum_by}
 use Rattle.std.specs.Fmt.{decimal}
 use Rattle.pool_ways.specs.Statuses.{has_ended}

@@ -11,7 +11,7 @@ use pool_model::state_of;
 use pool_values::{Config, Exchange, History};
 use std::alloc::Global;
 
-/// Writes the summary of a history of a pool with these limits. `NoMem` too where a count passes 2^64 - 1, or where the
+/// Writes the summary of the entries of a pool with these limits. `NoMem` too where a count passes 2^64 - 1, or where the
 /// entries or the connections are more than their numbers.
 #[tactic(auto, unfolding(crate::specs::Summary::summary_text))]
 pub fn write_summary(alloc: Global, config: &Config, history: &History) -> Result<Octets, NoMem>

@@ -1,5 +1,6 @@
--- When octets are the journal of a history, and which line is the first that keeps them from being one. A line ends with LF (10);
--- what stands behind the last LF is no line, and what stands behind the `end` line belongs to no journal. Lines are counted from 1.
+-- When octets are the journal of a list of entries, and which line is the first that keeps them from being one. A line ends with
+-- LF (10); what stands behind the last LF is no line, and what stands behind the `end` line belongs to no journal. Lines are counted
+-- from 1.
 use Rattle.std.specs.Prelude.{◌≡◌, ◌≢◌, ◌⊎◌, ⊤, ℕ, ◌+◌, List, [], ◌∷◌, ◌++◌, length, All}
 use Rattle.std.specs.List.{flat_map}
 use Rattle.pool_values.specs.declared.entry.Entry.{Entry}
@@ -26,7 +27,7 @@ IsLineOfNone line = (e : Entry) → EntryFits e → ¬ (IsLineOf line e)
 abbrev pub lines_text : List Entry → List ℕ
 lines_text h = first_line ++ flat_map entry_line h
 
--- the octets begin with the journal of this history, which can be read back, and whose numbers are of their types
+-- the octets begin with the journal of these entries, which can be read back, and whose numbers are of their types
 abbrev pub IsJournal : List ℕ → List Entry → Type 0
 IsJournal bytes h = All IsWritable h × All EntryFits h × ((rest : List ℕ) × (bytes ≡ journal_text h ++ rest))
 

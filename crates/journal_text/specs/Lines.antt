@@ -1,5 +1,5 @@
--- The journal of a history, format 1: the line of the format, one line for each entry (`Lines` of `journal_lines`), and `end` with
--- the number of entries. The format is this project's own. Each line ends with LF (10).
+-- The journal of a list of entries, format 1: the line of the format, one line for each entry (`Lines` of `journal_lines`), and
+-- `end` with the number of entries. The format is this project's own. Each line ends with LF (10).
 use Rattle.std.specs.Prelude.{ℕ, List, [], ◌∷◌, ◌++◌, codes, length}
 use Rattle.std.specs.List.{flat_map}
 use Rattle.std.specs.Fmt.{decimal}

@@ -1,4 +1,4 @@
-// The journal of a history, written.
+// The journal of a list of entries, written.
 ghost use Rattle.std.specs.Prelude.{◌≡◌, ◌++◌, IfOk, OnOk};
 ghost use Rattle.std.specs.List.{flat_map};
 ghost use Rattle.journal_lines.specs.Lines.{entry_line};
@@ -10,7 +10,7 @@ use net_base::{NoMem, Octets};
 use pool_values::{Entry, History};
 use std::alloc::Global;
 
-/// Writes the journal of a history: the line of the format, a line for each entry, and `end` with their number.
+/// Writes the journal of a list of entries: the line of the format, a line for each entry, and `end` with their number.
 pub fn write_journal(alloc: Global, h: &History) -> Result<Octets, NoMem>
     ensures { IfOk result (λ text. text ≡ spec.journal_text h.now) }
 {

@@ -116,14 +116,15 @@ fn is_format(line: &[u8]) -> bool
     line == b"poolrun 1".as_slice()
 }
 
-/// Reads a journal, format 1, up to its `end` line: the history that is written in it.
+/// Reads a journal, format 1, up to its `end` line: the entries that are written in it, whether or not they are a history
+/// of a pool.
 ///
 /// `BadLine` at the first line that is none of a journal, `Truncated` where every line is good and there is no `end` line.
 pub fn read_journal(alloc: Global, bytes: &[u8]) -> Result<History, JournalFault>
     ensures ok { IfOk result (IsJournal bytes.now) }
     ensures refused { IfErr result (RefusesJournal bytes.now) }
 
-    // Each history that can be written so is read from its journal, whatever stands behind it.
+    // Each list of entries that can be written so is read from its journal, whatever stands behind it.
     ensures back { (h : List Entry) (rest : List ℕ) → All IsWritable h → All EntryFits h → bytes.now ≡ lines.journal_text h ++ rest → MatchResult result (λ g. g ≡ h) (λ e. e ≡ JournalFault.NoMem) }
 {
     let Some(format) = first_line(bytes) else {

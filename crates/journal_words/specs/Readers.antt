@@ -1,5 +1,5 @@
--- How words are read back. What the journal writes is read as what it was written for. A reader may take more than that (a
--- number in upper-case digits, say), so whoever reads a line writes what was read again and compares.
+-- How words are read back. What the journal writes is read as what it was written for. A reader may take more than that (octets
+-- in upper-case digits, say), so whoever reads a line writes what was read again and compares.
 use Rattle.std.specs.Prelude.{◌≡◌, ◌⊎◌, ℕ, ◌+◌, ◌==◌, ◌&&◌, nat_le, Bool, true, false, List, [], ◌∷◌, take, drop, codes, bytes_eq, Option, Some, None, Result, Ok, Err, MatchResult, if◌then◌else◌}
 use Rattle.std.specs.List.{slice_split}
 use Rattle.std.specs.Fmt.{decimal}

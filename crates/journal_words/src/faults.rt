@@ -5,7 +5,7 @@
 pub enum WordFault {
     /// There was no memory.
     NoMem,
-    /// They aren't what the journal writes for any value of this kind.
+    /// They aren't what the journal writes for any value of this kind that has a word of its own.
     Unreadable,
 }
 

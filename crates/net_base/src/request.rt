@@ -232,8 +232,8 @@ fn first_forbidden_field(fields: &[Field]) -> Option<usize>
     fields.iter().position(|f| is_forbidden_field(f))
 }
 
-/// Whether a request may have this field: its name is a token of at most 65535 octets, and its value has no control but
-/// tab and neither a space nor a tab at an end (RFC 9110, sections 5.1 and 5.5).
+/// Whether the field's name is a token of at most 65535 octets, and its value has no control but tab and neither a space
+/// nor a tab at an end (RFC 9110, sections 5.1 and 5.5; the 65535 are this project's own).
 pub fn is_field(f: &Field) -> bool
     ensures { result ≡ spec.is_field f.now }
 {

@@ -53,7 +53,7 @@ impl PlainValue for AltKey {
 }
 
 /// What a connection has in common with an exchange that may share it (RFC 9113, section 9.1.1): the partition, the
-/// credentials mode, the address and the port.
+/// credentials, the address and the port.
 #[derive(Debug, Drop)]
 pub struct CoalesceKey {
     pub key: PartitionKey,

@@ -1,5 +1,5 @@
 //! The keys by which a pool keeps sites apart: a site, a partition key (Fetch Standard, network partition keys), the
-//! group of connections that exchanges of one key, one credentials mode, one origin and one target share, and the
+//! group of connections that exchanges of one key, one origin and one target with equal credentials share, and the
 //! alternative services of an origin (RFC 7838).
 //!
 //! `read_site` and `write_site` are one the other's inverse: each site has one text. `is_fresh` says when an alternative

@@ -54,7 +54,7 @@ pub record IsBadAt (config : Config) (h : List Entry) (place : ℕ) : Type 0 whe
   pub is_entry : slice_get h index ≡ Some entry
   pub bad : ¬ MayStand (run config (take index h)) entry
 
--- each entry may stand where it stands, but at the place behind the last the pool has something to do by itself
+-- at the place behind the last entry the pool has something to do by itself
 pub record IsUnsettledAt (config : Config) (h : List Entry) (place : ℕ) : Type 0 where
   pub is_place : place ≡ length h + 1
   pub unsettled : ¬ IsSettled (run config h)

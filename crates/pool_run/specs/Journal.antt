@@ -1,4 +1,4 @@
--- The history of the run of one exchange, one GET on one connection, its journal and its summary.
+-- The entries of the run of one exchange, one GET on one connection, their journal and their summary.
 use Rattle.std.specs.Prelude.{ℕ, ◌+◌, List, [], ◌∷◌, ◌++◌, true, false, None}
 use Rattle.net_base.specs.declared.end_cause.EndCause.TheVariants.{Done}
 use Rattle.net_base.specs.declared.identity.Identity.{Identity}

@@ -1,4 +1,4 @@
-// The history of the run of one exchange, its journal and its summary.
+// The entries of the run of one exchange, their journal and their summary.
 ghost use Rattle.std.specs.Prelude.{◌≡◌, ◌+◌, [], ◌∷◌, ◌++◌, ◌<◌, ◌^◌, IfOk, OnOk};
 ghost use Rattle.pool_run.specs.Moments as moments;
 ghost use Rattle.pool_run.specs.Journal as spec;
@@ -165,7 +165,7 @@ fn add_closed(alloc: Global, h: &mut History, moment: u64, sent: u64) -> Result<
     add(alloc, h, moment, 101, closed)
 }
 
-/// The history of an exchange. The request's text has `sent` octets, and it was answered in `round`.
+/// The entries of an exchange. The request's text has `sent` octets, and it was answered in `round`.
 #[tactic(auto, unfolding(crate::specs::Journal::exchange_history))]
 fn exchange_history(
     alloc: Global,

@@ -204,7 +204,7 @@ fn is_submit(value: &Value) -> bool
     value.get("call").and_then(Value::as_str) == Some("submit")
 }
 
-/// How many submissions there are with this call too; no memory holds 4294967296 calls.
+/// How many submissions there are with this call too. The number fits, since a channel has at most 20000 calls.
 fn submitted_with(submitted: u32, value: &Value) -> Result<u32, NoMem>
     ensures { IfOk result (λ n. n ≡ (if spec.is_submit (view value.now) then submitted + 1 else submitted)) }
 {

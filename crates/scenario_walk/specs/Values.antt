@@ -132,7 +132,7 @@ field path d = do
   parts ← any_items path d
   field_of path parts
 
--- a field whose name and value RFC 9110, sections 5.1 and 5.5, allow; its name may be any
+-- a field whose name and value are good (RFC 9110, sections 5.1 and 5.5); it may be one that requests leave to the pool
 abbrev pub good_field : Reader Field
 good_field path d = do
   f ← field path d

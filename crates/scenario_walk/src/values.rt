@@ -290,7 +290,7 @@ fn part(alloc: Global, at: &At, place: &str, value: &Value) -> Result<Octets, Sc
     Text.read(alloc, &At { path, value })
 }
 
-/// A field that a request may have too.
+/// A field whose name and value are good. It may be one that requests leave to the pool.
 #[derive(Drop)]
 pub struct GoodField;
 
