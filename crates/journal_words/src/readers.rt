@@ -1,5 +1,5 @@
 // Words read back.
-ghost use Rattle.std.specs.Prelude.{◌≡◌, ◌≤◌, ◌<◌, ◌^◌, ℕ, true, false, map, length, codes, Some, IfOk, IfSome, IsUtf8};
+ghost use Rattle.std.specs.Prelude.{◌≡◌, ◌≤◌, ◌<◌, ◌^◌, ℕ, true, false, map, length, codes, Some, IfOk, IfErr, IfSome, IsUtf8};
 ghost use Rattle.std.specs.Fmt.{decimal};
 ghost use Rattle.partition_keys.specs.Sites.{site_of};
 ghost use Rattle.journal_words.specs.Readers as spec;
@@ -158,7 +158,8 @@ pub fn read_octets(alloc: Global, word: &[u8]) -> Result<Octets, WordFault>
 
 /// An address of 16 octets in hexadecimal.
 pub fn read_address(word: &[u8]) -> Result<[u8; 16], WordFault>
-    ensures { Gives result (spec.address word.now) }
+    ensures gives { Gives result (spec.address word.now) }
+    ensures no_memory { IfErr result (λ e. e ≡ WordFault.Unreadable) }
 {
     match <[u8; 16] as FromHex>::from_hex(word) {
         Ok(address) => Ok(address),
@@ -170,27 +171,31 @@ pub fn read_address(word: &[u8]) -> Result<[u8; 16], WordFault>
 
 /// `+` for true and `-` for false.
 pub fn read_credentials(word: &[u8]) -> Result<bool, WordFault>
-    ensures { Gives result (spec.credentials word.now) }
+    ensures gives { Gives result (spec.credentials word.now) }
+    ensures no_memory { IfErr result (λ e. e ≡ WordFault.Unreadable) }
 {
     read_either(word, "+", "-")
 }
 
 /// `secure` or `clear`.
 pub fn read_security(word: &[u8]) -> Result<bool, WordFault>
-    ensures { Gives result (spec.security word.now) }
+    ensures gives { Gives result (spec.security word.now) }
+    ensures no_memory { IfErr result (λ e. e ≡ WordFault.Unreadable) }
 {
     read_either(word, "secure", "clear")
 }
 
 fn read_persist(word: &[u8]) -> Result<bool, WordFault>
-    ensures { Gives result (spec.persist word.now) }
+    ensures gives { Gives result (spec.persist word.now) }
+    ensures no_memory { IfErr result (λ e. e ≡ WordFault.Unreadable) }
 {
     read_either(word, "keep", "lose")
 }
 
 /// Whether it is the one word and not the other.
 pub fn read_either(word: &[u8], yes: &str, no: &str) -> Result<bool, WordFault>
-    ensures { Gives result (spec.either_word yes.now true no.now false word.now) }
+    ensures gives { Gives result (spec.either_word yes.now true no.now false word.now) }
+    ensures no_memory { IfErr result (λ e. e ≡ WordFault.Unreadable) }
 {
     if word == yes.as_bytes() {
         Ok(true)
@@ -203,7 +208,8 @@ pub fn read_either(word: &[u8], yes: &str, no: &str) -> Result<bool, WordFault>
 
 /// `h1` or `h2`.
 pub fn read_proto(word: &[u8]) -> Result<Proto, WordFault>
-    ensures { Gives result (spec.proto word.now) }
+    ensures gives { Gives result (spec.proto word.now) }
+    ensures no_memory { IfErr result (λ e. e ≡ WordFault.Unreadable) }
 {
     if word == b"h1".as_slice() {
         Ok(Proto::H1)
@@ -216,7 +222,8 @@ pub fn read_proto(word: &[u8]) -> Result<Proto, WordFault>
 
 /// By which right an exchange uses a connection.
 pub fn read_way(word: &[u8]) -> Result<Way, WordFault>
-    ensures { Gives result (spec.way_of word.now) }
+    ensures gives { Gives result (spec.way_of word.now) }
+    ensures no_memory { IfErr result (λ e. e ≡ WordFault.Unreadable) }
 {
     if word == b"direct".as_slice() {
         Ok(Way::Direct)
