@@ -85,14 +85,15 @@ fn full_post(alloc: Global) -> Result<Submission, NoMem> {
     })
 }
 
-/// Whether a journal of this one line has the entry alone, or the line has no orders, which can't be read.
+/// Whether a journal of this one line has the entry alone.
 fn is_read(alloc: Global, line: &'static str, entry: &Entry) -> Result<bool, NoMem> {
     let mut text = octets(alloc, "poolrun 1\n")?;
     text.extend(alloc, line.as_bytes())?;
     text.extend(alloc, b"end 1\n")?;
     match read_journal(alloc, text.as_slice()) {
         Ok(h) => Ok(h.len() == 1 && h.as_slice()[0].same(entry)),
-        Err(fault) => Ok(fault == JournalFault::BadLine(2) && line.ends_with("=\n")),
+        Err(JournalFault::NoMem) => Err(NoMem),
+        Err(_) => Ok(false),
     }
 }
 
