@@ -3,7 +3,7 @@ use Rattle.std.proofs.Common.{◌≡◌, ◌<◌, ◌⊎◌, inl, inr, ℕ, List
 use Rattle.std.specs.Prelude.{◌==◌, ◌&&◌, ◌||◌, not}
 use Rattle.std.specs.List.{list_any}
 use Rattle.std.specs.Str.{bytes_eq}
-use Rattle.std.proofs.lemmas.Bool.{and_parts, or_cases, not-true, cond-true, cond-false, false_from_ne_true, ltb-true, leb-true, leb-false, eqb-true}
+use Rattle.std.proofs.lemmas.Bool.{and_parts, or_cases, not-true, cond-true, cond-false, false_from_ne_true, both_ways, ltb-true, leb-true, leb-false, eqb-true}
 use Rattle.std.proofs.lemmas.List.Folds.{Any-from_list_any}
 use Rattle.net_base.specs.Equality.{same_bool, same_origin, same_proto, same_target}
 use Rattle.net_base.specs.declared.identity.Identity.{Identity}
@@ -11,7 +11,8 @@ use Rattle.net_base.specs.declared.numbers.ConnNo.{ConnNo}
 use Rattle.net_base.specs.declared.numbers.ExchangeNo.{ExchangeNo}
 use Rattle.net_base.specs.declared.numbers.Moment.{Moment}
 use Rattle.net_base.specs.declared.numbers.StreamNo.{StreamNo}
-use Rattle.net_base.specs.declared.origin.Scheme.TheVariants.{Http}
+use Rattle.net_base.specs.declared.origin.Scheme.{Scheme}
+use Rattle.net_base.specs.declared.origin.Scheme.TheVariants.{Http, Https}
 use Rattle.net_base.specs.declared.target.Proto.{Proto}
 use Rattle.net_base.specs.declared.target.Proto.TheVariants.{H1, H2}
 use Rattle.net_base.specs.declared.target.Target.{Target}
@@ -20,13 +21,13 @@ use Rattle.partition_keys.specs.Freshness.{is_fresh}
 use Rattle.partition_keys.specs.declared.alternative.Alternative.{Alternative}
 use Rattle.peer_identity.proofs.CoverLemmas.{covers_is_covered}
 use Rattle.peer_identity.specs.Covers.{is_covered}
-use Rattle.pool_laws.proofs.SameLemmas.{bools_are, protos_are, targets_are, keys_are}
-use Rattle.pool_laws.specs.AlternativeLaws.{IsOpportune, GoesToFreshAlternative, AlternativesAreFresh}
+use Rattle.pool_laws.proofs.SameLemmas.{bools_are, protos_are, origins_are, targets_are, keys_are}
+use Rattle.pool_laws.specs.AlternativeLaws.{IsOpportune, MayShare, GoesToFreshAlternative, AlternativesAreFresh}
 use Rattle.pool_laws.specs.ApartLaws.{AnswersFor, IsKeptApart, KeepsApart}
-use Rattle.pool_laws.specs.Courses.{state_at, Comes, OfExchange, OfConnection, OfBoth}
+use Rattle.pool_laws.specs.Courses.{state_at, moment_at, Comes, OfExchange, OfConnection, OfBoth}
 use Rattle.pool_laws.specs.EndLaws.{OnlyOpenOnesAreAssigned}
 use Rattle.pool_laws.specs.LimitLaws.{IsBelowLimits, WantsStayBelowLimits, HasPlace, AssignsHavePlace}
-use Rattle.pool_rules.proofs.RunLemmas.{config-run}
+use Rattle.pool_rules.proofs.RunLemmas.{config-run, latest-run}
 use Rattle.pool_rules.specs.Histories.{MayStand}
 use Rattle.pool_rules.specs.Legal.{IsReply}
 use Rattle.pool_settling.specs.Counts.{count_total, count_in_group, openings_of}
@@ -85,11 +86,11 @@ usable s x c r by a =
     subst (λ y. IsTrue (is_usable s a.exchange y)) same p.2
 
 -- what makes a connection usable
-record IsUsable (s : AbstractPool) (x : Exchange) (y : Connection) : Type 0 where
-  phase : IsTrue (is_open y.phase)
-  capacity : IsTrue (has_capacity s.config y)
+pub record IsUsable (s : AbstractPool) (x : Exchange) (y : Connection) : Type 0 where
+  pub phase : IsTrue (is_open y.phase)
+  pub capacity : IsTrue (has_capacity s.config y)
 
-usable_parts : (s : AbstractPool) (x : Exchange) (y : Connection) → IsTrue (is_usable s x y) → IsUsable s x y
+pub usable_parts : (s : AbstractPool) (x : Exchange) (y : Connection) → IsTrue (is_usable s x y) → IsUsable s x y
 unfolding is_usable
 usable_parts s x y h =
     let front = and_parts (is_open y.phase && has_capacity s.config y) (has_way s x y) h in
@@ -120,7 +121,7 @@ empty_list [] h = refl
 empty_list (x ∷ xs) h = absurd (omega arith)
 
 -- what has capacity has a place
-place_parts : (config : Config) (y : Connection) → IsTrue (has_capacity config y) → HasPlace config y
+pub place_parts : (config : Config) (y : Connection) → IsTrue (has_capacity config y) → HasPlace config y
 unfolding has_capacity
 place_parts config y h =
     let below : Bool = nat_lt (length y.live) (min config.streams y.peer_limit) in
@@ -260,19 +261,44 @@ opportune now x a h =
     proven : IsTrue (nat_lt now.0 a.proven_until.0 || x.ask.probe) → (now.0 < a.proven_until.0) ⊎ (x.ask.probe ≡ true)
     proven k = elim (or_cases (nat_lt now.0 a.proven_until.0) x.ask.probe k) [ inl t ↦ inl (ltb-true now.0 a.proven_until.0 t) | inr t ↦ inr t ]
 
--- for http no alternative is shared but an opportune one
-opportune_for : (now : Moment) (x : Exchange) (y : Connection) (a : Alternative) → IsTrue (may_share_alternative now x y a) → x.ask.request.origin.scheme ≡ Http → IsOpportune now x a
-opportune_for now x y a h http =
+-- by which origins an alternative is shared, and for http it is opportune
+record Sharing (now : Moment) (x : Exchange) (y : Connection) (a : Alternative) : Type 0 where
+  shares : MayShare y.group.origin x.ask.request.origin
+  opportune : x.ask.request.origin.scheme ≡ Http → IsOpportune now x a
+
+https_only : (scheme : Scheme) → is_https scheme ≡ true → scheme ≡ Https
+https_only Http h = absurd cc
+https_only Https h = refl
+
+http_only : (scheme : Scheme) → not (is_https scheme) ≡ true → scheme ≡ Http
+http_only Http h = refl
+http_only Https h = absurd cc
+
+sharing_for : (now : Moment) (x : Exchange) (y : Connection) (a : Alternative) → IsTrue (may_share_alternative now x y a) → Sharing now x y a
+sharing_for now x y a h =
     let o = x.ask.request.origin in
     let secured : Bool = is_https y.group.origin.scheme && is_https o.scheme in
-    let same : Bool = not (is_https o.scheme) && same_origin y.group.origin o in
+    let plain : Bool = not (is_https o.scheme) in
+    let same : Bool = plain && same_origin y.group.origin o in
     elim (or_cases secured (same && is_opportune now x.ask.probe a) h) [
       | inl t ↦
-          let https = (and_parts (is_https y.group.origin.scheme) (is_https o.scheme) t).1 in
-          let plain : is_https o.scheme ≡ false = ap is_https http in
-          absurd cc
-      | inr t ↦ opportune now x a (and_parts same (is_opportune now x.ask.probe a) t).1
+          let both = and_parts (is_https y.group.origin.scheme) (is_https o.scheme) t in
+          record {
+            shares = inl (https_only y.group.origin.scheme both.0, https_only o.scheme both.1);
+            opportune = λ http. let no : is_https o.scheme ≡ false = ap is_https http in absurd (both_ways (is_https o.scheme) no both.1);
+          }
+      | inr t ↦
+          let parts = and_parts same (is_opportune now x.ask.probe a) t in
+          let both = and_parts plain (same_origin y.group.origin o) parts.0 in
+          record {
+            shares = inr (http_only o.scheme both.0, origins_are y.group.origin o both.1);
+            opportune = λ http. opportune now x a parts.1;
+          }
     ]
+
+-- the state's latest moment is the greatest one so far
+latest_is : (config : Config) (h : List Entry) (n : ℕ) → (state_at config h n).latest ≡ moment_at h n
+latest_is config h n = let whole : ℕ → Moment = λ k. record { 0 = k } in ap whole (latest-run config (take n h))
 
 pub alternatives_are_fresh : AlternativesAreFresh
 alternatives_are_fresh config h n e x c r comes is =
@@ -280,15 +306,18 @@ alternatives_are_fresh config h n e x c r comes is =
     let a = assigned config h n e x c r way.Alternative comes is in
     let one = over_one s a.exchange a.connection a.authority.first.1 in
     let strong = strong_over a.exchange.ask.request.origin.host a.connection.identity one.0 one.2.strong in
-    of_both s x c r way.Alternative (GoesToFreshAlternative s) a (record {
+    let sharing = sharing_for s.latest a.exchange a.connection one.0 one.2.shares in
+    subst (λ now. OfBoth s x c (GoesToFreshAlternative s now)) (latest_is config h n)
+    (of_both s x c r way.Alternative (GoesToFreshAlternative s s.latest) a (record {
       alternative = one.0;
       is_one = one.1;
       fresh = one.2.fresh;
       target = one.2.target;
       authority = strong.0;
       protocol = strong.1;
-      opportune = opportune_for s.latest a.exchange a.connection one.0 one.2.shares;
-    })
+      shares = sharing.shares;
+      opportune = sharing.opportune;
+    }))
 
 -- ---- the limits of connections
 

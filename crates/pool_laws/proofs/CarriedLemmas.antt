@@ -80,7 +80,7 @@ assigned_carried s e conn stream by c r gives is_conn is_stream =
     and_value (numbered c.0 (after_assign s e conn stream by).connections) (λ z. Carries z r) (f y) here
     (record { busy = busy_with_start s.config.last_stream e stream y gives.opened; given = omega arith })
 
-given_fit : (s : AbstractPool) (act : Act) (n : ℕ) (c : ConnNo) (r : StreamNo) → IsFit s act → (g : IsGiven act n c r) → Gives s g.conn g.stream
+pub given_fit : (s : AbstractPool) (act : Act) (n : ℕ) (c : ConnNo) (r : StreamNo) → IsFit s act → (g : IsGiven act n c r) → Gives s g.conn g.stream
 given_fit s act n c r fit g = let h : IsFit s (Assign g.exchange g.conn g.stream g.by) = subst (IsFit s) g.is_assign fit in h.1
 
 carried_act : (s : AbstractPool) (who : CallerNo) (act : Act) → IsFit s act → AreCarried s → AreCarried (after_act s who act)

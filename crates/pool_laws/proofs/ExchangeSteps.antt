@@ -1,8 +1,9 @@
--- What one step of an entry leaves of an exchange: that its end stays, that it waits again only by a move, and how often it moved.
+-- What one step of an entry leaves of an exchange: that its end stays, that it waits again only by a move, how often it moved, and that it
+-- was sent again.
 use Rattle.std.proofs.Common.{◌≡◌, ◌+◌, ◌<◌, ◌⊎◌, ℕ, List, [], ◌∷◌, ◌++◌, Option, Some, None, true, false, inl, inr, refl, ap, subst, ◌∙◌, map}
 use Rattle.std.specs.Prelude.{◌&&◌, ◌==◌, nat_le}
 use Rattle.std.specs.List.{list_any}
-use Rattle.std.proofs.lemmas.Bool.{cond_both, leb-false}
+use Rattle.std.proofs.lemmas.Bool.{cond_both, or_left, leb-false}
 use Rattle.net_base.specs.declared.numbers.ConnNo.{ConnNo}
 use Rattle.net_base.specs.declared.numbers.Moment.{Moment}
 use Rattle.net_base.specs.declared.numbers.StreamNo.{StreamNo}
@@ -11,7 +12,7 @@ use Rattle.pool_changes.specs.Moves.{lease_moves, may_move}
 use Rattle.pool_rules.proofs.EditLemmas.{edit_at, map_at, append_at, each_one}
 use Rattle.pool_steps.specs.Exchanges.{with_status, ended_by, with_urgency, timed_out_at, timed_out, ended_unless, ended_if_waiting, moved, marked_by_report, marked_by, ended_at, ended_on, ended_by_report, ended_by_act, lease_after, handed_lease, handed_by}
 use Rattle.pool_ways.specs.Lists.{numbered, edit}
-use Rattle.pool_ways.specs.Statuses.{is_waiting, is_leased, has_ended, is_on, is_at}
+use Rattle.pool_ways.specs.Statuses.{is_waiting, is_leased, has_ended, is_on, is_at, is_handed}
 use Rattle.pool_values.specs.declared.entry.Act.{Act}
 use Rattle.pool_values.specs.declared.entry.Act.TheVariants.{Submit, Cancel, Reprioritise, Preconnect, Resolved, Network, Tick, Shutdown, Dial, Orders, Reported, Closed, Expire, Lapse, Assign, Want, Evict}
 use Rattle.pool_values.specs.declared.entry.Way.{Way}
@@ -49,18 +50,20 @@ leased_only (Ended how) l w = absurd cc
 
 -- ---- an exchange before a step, and behind it
 
--- its end stays, where F holds; it waits only if it waited before; and it hasn't moved
+-- its end stays, where F holds; it waits only if it waited before; it hasn't moved; and where it was sent again once, that stays
 pub record Stays (F : Type 0) (x y : Exchange) : Type 0 where
   pub ended : F → (how : Outcome) → x.status ≡ Ended how → y.status ≡ Ended how
   pub waits : is_waiting y.status ≡ true → is_waiting x.status ≡ true
   pub moves : y.moves ≡ x.moves
+  pub retried : x.retried ≡ true → y.retried ≡ true
 
 -- its end stays, where F holds; it waits behind a lease only if it may move by the act, and then it has moved; it moves at most
--- once, and not from five moves on
+-- once, and not from five moves on; and where it was sent again once, that stays
 pub record Becomes (F : Type 0) (act : Act) (x y : Exchange) : Type 0 where
   pub ended : F → (how : Outcome) → x.status ≡ Ended how → y.status ≡ Ended how
   pub again : is_leased x.status ≡ true → is_waiting y.status ≡ true → (may_move x act ≡ true) × (y.moves ≡ x.moves + 1)
   pub moves : (y.moves ≡ x.moves) ⊎ ((y.moves ≡ x.moves + 1) × (x.moves < 5))
+  pub retried : x.retried ≡ true → y.retried ≡ true
 
 -- the same of the items of one number: none is lost, and a new one has no moves
 abbrev pub StaysAt : Type 0 → Option Exchange → Option Exchange → Type 0
@@ -81,10 +84,11 @@ becomes_on F act x y z b s = record {
   ended = λ f how h. s.ended f how (b.ended f how h);
   again = λ l w. let a = b.again l (s.waits w) in (a.0, s.moves ∙ a.1);
   moves = elim b.moves [ inl e ↦ inl (s.moves ∙ e) | inr m ↦ inr (s.moves ∙ m.0, m.1) ];
+  retried = λ t. s.retried (b.retried t);
 }
 
 becomes_stays : (F : Type 0) (act : Act) (x y : Exchange) → Stays F x y → Becomes F act x y
-becomes_stays F act x y s = record { ended = s.ended; again = λ l w. absurd (leased_only x.status l (s.waits w)); moves = inl s.moves }
+becomes_stays F act x y s = record { ended = s.ended; again = λ l w. absurd (leased_only x.status l (s.waits w)); moves = inl s.moves; retried = s.retried }
 
 pub becomes_on_at : (F : Type 0) (act : Act) (o p q : Option Exchange) → BecomesAt F act o p → StaysAt F p q → BecomesAt F act o q
 becomes_on_at F act None None None b s = tt
@@ -104,7 +108,7 @@ becomes_stays_at F act (Some x) (Some y) s = becomes_stays F act x y s
 -- ---- steps that make nothing wait
 
 stays_refl : (F : Type 0) (x : Exchange) → Stays F x x
-stays_refl F x = record { ended = λ f how h. h; waits = λ w. w; moves = refl }
+stays_refl F x = record { ended = λ f how h. h; waits = λ w. w; moves = refl; retried = λ t. t }
 
 -- a step that changes the status alone, of one that has no end to one that doesn't wait
 stays_status : (F : Type 0) (status : Status) (x : Exchange) → (F → has_ended x.status ≡ false) → is_waiting status ≡ false → Stays F x (with_status status x)
@@ -112,6 +116,7 @@ stays_status F status x no_end not_waiting = record {
   ended = λ f how h. let n = no_end f in let e : has_ended x.status ≡ true = ap (λ (t : Status). has_ended t) h in absurd cc;
   waits = λ w. absurd cc;
   moves = refl;
+  retried = λ t. t;
 }
 
 pub stays_leased : (F : Type 0) (c : ConnNo) (r : StreamNo) (by : Way) (x : Exchange) → (F → has_ended x.status ≡ false) → Stays F x (with_status (Leased c r by false) x)
@@ -135,10 +140,10 @@ stays_ended_if_waiting F how x =
     cond_both (is_waiting x.status) (ended_by how x) x (Stays F x) (λ t. stays_ended_by F how x (λ f. waiting_open x.status t)) (λ e. stays_refl F x)
 
 pub stays_with_urgency : (F : Type 0) (urgency : ℕ) (x : Exchange) → Stays F x (with_urgency urgency x)
-stays_with_urgency F urgency x = record { ended = λ f how h. h; waits = λ w. w; moves = refl }
+stays_with_urgency F urgency x = record { ended = λ f how h. h; waits = λ w. w; moves = refl; retried = λ t. t }
 
 pub stays_handed : (F : Type 0) (c : ConnNo) (orders : List OrderMark) (x : Exchange) → Stays F x (handed_by c orders x)
-stays_handed F c orders x = record { ended = λ f how h. ap (handed_lease c orders) h; waits = waits x.status; moves = refl }
+stays_handed F c orders x = record { ended = λ f how h. ap (handed_lease c orders) h; waits = waits x.status; moves = refl; retried = λ t. t }
   where
     waits : (status : Status) → is_waiting (handed_lease c orders status) ≡ true → is_waiting status ≡ true
     waits Waiting w = w
@@ -219,6 +224,36 @@ marked-moves (Assign exchange conn r by) x = refl
 marked-moves (Want exchange conn target) x = refl
 marked-moves (Evict conn) x = refl
 
+marked-retried_report : (r : Report) (x : Exchange) → (marked_by_report r x).retried ≡ x.retried
+marked-retried_report (report.Opened id) x = refl
+marked-retried_report (report.Limit n) x = refl
+marked-retried_report (report.Answered r response keep alt proof) x = refl
+marked-retried_report (report.Refused r) x = refl
+marked-retried_report (report.Reset r code) x = refl
+marked-retried_report (report.TooLarge r) x = refl
+marked-retried_report (report.StreamClosed r) x = refl
+marked-retried_report (report.Goaway last) x = refl
+marked-retried_report (report.AltSeen origin alt) x = refl
+
+marked_retried : (act : Act) (x : Exchange) → x.retried ≡ true → (marked_by act x).retried ≡ true
+marked_retried (Submit ask reply) x t = t
+marked_retried (Cancel exchange reply) x t = t
+marked_retried (Reprioritise exchange urgency reply) x t = t
+marked_retried (Preconnect key credentials origin count reply) x t = t
+marked_retried (Resolved key host addresses reply) x t = t
+marked_retried Network x t = t
+marked_retried Tick x t = t
+marked_retried (Shutdown reply) x t = t
+marked_retried (Dial conn target) x t = t
+marked_retried (Orders conn sent orders) x t = t
+marked_retried (Reported conn sent report) x t = marked-retried_report report x ∙ t
+marked_retried (Closed conn sent cause heard) x t = or_left x.retried (is_handed x.status) t
+marked_retried (Expire exchange) x t = t
+marked_retried (Lapse exchange) x t = t
+marked_retried (Assign exchange conn r by) x t = t
+marked_retried (Want exchange conn target) x t = t
+marked_retried (Evict conn) x t = t
+
 -- one that may move has no end
 movable_open : (act : Act) (x : Exchange) → may_move x act ≡ true → has_ended x.status ≡ false
 unfolding may_move
@@ -230,13 +265,13 @@ movable_open act x h = by x.status h
     by (Ended how) k = absurd cc
 
 -- m is the exchange with its marks
-becomes_moved : (F : Type 0) (act : Act) (x m : Exchange) → may_move x act ≡ true → m.moves ≡ x.moves → Becomes F act x (moved m)
+becomes_moved : (F : Type 0) (act : Act) (x m : Exchange) → may_move x act ≡ true → m.moves ≡ x.moves → (x.retried ≡ true → m.retried ≡ true) → Becomes F act x (moved m)
 unfolding moved
-becomes_moved F act x m may same =
+becomes_moved F act x m may same kept =
     let waiting : Exchange = record m { status = Waiting; moves = m.moves + 1 } in
     cond_both (nat_le 5 m.moves) (ended_by outcome.TooManyMoves m) waiting (Becomes F act x)
-    (λ t. record { ended = λ f how h. absurd (has_end how h); again = λ l w. absurd cc; moves = inl same })
-    (λ e. record { ended = λ f how h. absurd (has_end how h); again = λ l w. (may, once); moves = inr (once, subst (λ n. n < 5) same (leb-false 5 m.moves e)) })
+    (λ t. record { ended = λ f how h. absurd (has_end how h); again = λ l w. absurd cc; moves = inl same; retried = kept })
+    (λ e. record { ended = λ f how h. absurd (has_end how h); again = λ l w. (may, once); moves = inr (once, subst (λ n. n < 5) same (leb-false 5 m.moves e)); retried = kept })
   where
     once : m.moves + 1 ≡ x.moves + 1
     once = ap (λ n. n + 1) same
@@ -248,7 +283,7 @@ pub becomes_lease : (F : Type 0) (act : Act) (x : Exchange) → Becomes F act x 
 unfolding lease_after
 becomes_lease F act x =
     cond_both (may_move x act) (moved (marked_by act x)) (ended_by_act act x) (Becomes F act x)
-    (λ may. becomes_moved F act x (marked_by act x) may (marked-moves act x)) (λ e. becomes_stays F act x (ended_by_act act x) (stays_by_act F act x))
+    (λ may. becomes_moved F act x (marked_by act x) may (marked-moves act x) (marked_retried act x)) (λ e. becomes_stays F act x (ended_by_act act x) (stays_by_act F act x))
 
 -- ---- lists of exchanges
 

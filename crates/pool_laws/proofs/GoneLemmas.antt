@@ -1,17 +1,26 @@
 -- A connection never goes back, and one that is gone stays gone.
-use Rattle.std.proofs.Common.{◌≡◌, ◌≤◌, arith, Option, Some, None, Bool, true, false, refl, ap, IsSomeAnd}
+use Rattle.std.proofs.Common.{◌≡◌, ◌≤◌, ℕ, List, arith, Option, Some, None, Bool, true, false, refl, sym, ap, subst, IsSomeAnd}
+use Rattle.net_base.specs.declared.end_cause.EndCause.{EndCause}
+use Rattle.net_base.specs.declared.numbers.CallerNo.{CallerNo}
 use Rattle.net_base.specs.declared.numbers.ConnNo.{ConnNo}
-use Rattle.pool_laws.proofs.CourseLemmas.{state_later}
-use Rattle.pool_laws.proofs.FitLemmas.{closes, fit_stand}
+use Rattle.net_base.specs.declared.numbers.StreamNo.{StreamNo}
+use Rattle.pool_changes.specs.Connections.{with_sent}
+use Rattle.pool_laws.proofs.CourseLemmas.{state_later, state_after}
+use Rattle.pool_laws.proofs.FitLemmas.{closes, IsFit, fit_stand}
 use Rattle.pool_laws.proofs.StayLemmas.{TurnsAt}
 use Rattle.pool_laws.proofs.TurnLemmas.{no_claim, turned_act}
 use Rattle.pool_laws.specs.Courses.{state_at, OfConnection}
-use Rattle.pool_laws.specs.EndLaws.{stage_of, ConnectionsGoForward, GoneStaysGone}
+use Rattle.pool_laws.specs.EndLaws.{stage_of, ConnectionsGoForward, ClosedOnesAreGone, GoneStaysGone}
+use Rattle.pool_rules.proofs.EditLemmas.{edit_here}
+use Rattle.pool_rules.proofs.OwnLemmas.{IsOneEdit, IsGivenUp, gone_closed}
 use Rattle.pool_rules.specs.Histories.{MayStand}
-use Rattle.pool_steps.specs.After.{noted, after, after_act}
-use Rattle.pool_ways.proofs.NumberLemmas.{and_value}
+use Rattle.pool_rules.specs.Legal.{MayClose}
+use Rattle.pool_steps.specs.After.{noted, sent_noted, after_closed, after, after_act}
+use Rattle.pool_ways.proofs.NumberLemmas.{and_value, value_and}
 use Rattle.pool_ways.specs.Lists.{numbered}
 use Rattle.pool_ways.specs.Statuses.{is_gone}
+use Rattle.pool_values.specs.declared.entry.Act.{Act}
+use Rattle.pool_values.specs.declared.entry.Act.TheVariants.{Closed}
 use Rattle.pool_values.specs.declared.entry.Entry.{Entry}
 use Rattle.pool_values.specs.declared.state.AbstractPool.{AbstractPool}
 use Rattle.pool_values.specs.declared.state.Connection.{Connection}
@@ -61,3 +70,26 @@ connections_go_forward config h n m c x history later is_item =
 
 pub gone_stays_gone : GoneStaysGone
 gone_stays_gone config h n m c history later here = state_later config h n m (λ s. OfConnection s c (λ y. y.phase ≡ Gone)) history (gone_after c) later here
+
+-- ---- the end of a connection
+
+gone_edited : (c : ℕ) (x : Connection) (xs ys : List Connection) → IsOneEdit IsGivenUp c x xs ys → IsSomeAnd (numbered c ys) (λ y. y.phase ≡ Gone)
+gone_edited c x xs ys one = and_value (numbered c ys) (λ y. y.phase ≡ Gone) one.item one.is_item one.changed
+
+gone_behind : (s : AbstractPool) (who : CallerNo) (c : ConnNo) (sent : ℕ) (cause : EndCause) (heard : List StreamNo) → IsFit s (Closed c sent cause heard) →
+    OfConnection (after_act s who (Closed c sent cause heard)) c (λ y. y.phase ≡ Gone)
+gone_behind s who c sent cause heard fit =
+    let t : AbstractPool = sent_noted s c sent in
+    let act : Act = Closed c sent cause heard in
+    let v = value_and (numbered c.0 s.connections) (λ x. MayClose x cause) fit in
+    let first : numbered c.0 t.connections ≡ Some (with_sent sent v.0) = edit_here c.0 (with_sent sent) s.connections v.0 v.1 in
+    gone_edited c.0 (with_sent sent v.0) t.connections (after_closed t c cause act).connections (gone_closed t c cause act (with_sent sent v.0) first)
+
+pub closed_ones_are_gone : ClosedOnesAreGone
+unfolding after
+closed_ones_are_gone config h n e c sent cause heard comes is =
+    let s : AbstractPool = state_at config h n in
+    let t : AbstractPool = noted s e.moment in
+    let fit : IsFit t (Closed c sent cause heard) = subst (IsFit t) is (fit_stand s e (comes.history.each n e comes.is_entry)) in
+    let behind : OfConnection (after s e) c (λ y. y.phase ≡ Gone) = subst (λ (act : Act). OfConnection (after_act t e.who act) c (λ y. y.phase ≡ Gone)) (sym is) (gone_behind t e.who c sent cause heard fit) in
+    subst (λ u. OfConnection u c (λ y. y.phase ≡ Gone)) (sym (state_after config h n e comes.is_entry)) behind

@@ -11,6 +11,8 @@ pub mod FewLemmas
 pub mod FitLemmas
 pub mod GoneLemmas
 pub mod MoveLemmas
+pub mod OrderlyLemmas
+pub mod OrderlySteps
 pub mod OverlapLemmas
 pub mod PlaceLemmas
 pub mod PresentLemmas
@@ -18,6 +20,7 @@ pub mod ReleaseLemmas
 pub mod RoomLemmas
 pub mod RowLemmas
 pub mod SameLemmas
+pub mod SentLemmas
 pub mod SettlingFalls
 pub mod SettlingLemmas
 pub mod ShutLemmas
@@ -25,6 +28,8 @@ pub mod SizeLemmas
 pub mod SoundLemmas
 pub mod StableLemmas
 pub mod StandStable
+pub mod StartLemmas
+pub mod StartSteps
 pub mod StayLemmas
 pub mod TurnLemmas
 pub mod WorkerLemmas

@@ -1,9 +1,9 @@
--- A list of entries is a history exactly where no place of it is the first bad one, and there is at most one such place.
+-- A list of entries is a history exactly where no place of it is bad, and there is at most one first bad place.
 use Rattle.std.proofs.Common.{◌≡◌, ◌<◌, ◌+◌, ◌⊎◌, ℕ, zero, suc, List, [], ◌∷◌, Some, inl, inr, refl, sym, ap, subst, ◌∙◌, arith, length, take, slice_get}
 use Rattle.std.proofs.lemmas.Bool.{cases_order}
 use Rattle.std.proofs.lemmas.Option.{slice_get_within}
 use Rattle.pool_laws.proofs.StandStable.{stable_stand}
-use Rattle.pool_laws.specs.PlaceLaws.{HistoriesHaveNoBadPlace, FirstBadPlaceIsOne, BeginningsAreHistories}
+use Rattle.pool_laws.specs.PlaceLaws.{HistoriesHaveNoBadPlace, HistoriesHaveNoFirstBadPlace, FirstBadPlaceIsOne, BeginningsAreHistories}
 use Rattle.pool_rules.proofs.FirstBadLemmas.{StandBefore, before_none, before_more, bad_at, history_is, unsettled_at}
 use Rattle.pool_rules.specs.Histories.{run, MayStand, IsHistory, IsBadAt, IsUnsettledAt, IsFirstBad}
 use Rattle.pool_ways.proofs.NumberLemmas.{option_cases}
@@ -74,10 +74,20 @@ all_stand config h none (suc k) =
     let next = stands_next config h none k (all_stand config h none k) in
     λ i e less is_entry. next i e (omega (arith, less)) is_entry
 
-pub histories_have_no_bad_place : HistoriesHaveNoBadPlace
-histories_have_no_bad_place config h = (history_has_none config h, back)
+pub histories_have_no_first_bad_place : HistoriesHaveNoFirstBadPlace
+histories_have_no_first_bad_place config h = (history_has_none config h, back)
   where
     back : ((place : ℕ) → ¬ IsFirstBad config h place) → IsHistory config h
     back none =
         let before = all_stand config h none (length h) in
         history_is config h before (λ act due. none (length h + 1) (unsettled_at config h before (λ settled. settled act due)))
+
+-- a first bad place is a bad one
+first_is_bad : (config : Config) (h : List Entry) → ((place : ℕ) → (¬ IsBadAt config h place) × (¬ IsUnsettledAt config h place)) → (place : ℕ) → ¬ IsFirstBad config h place
+first_is_bad config h none place first = elim first.bad [ inl bad ↦ (none place).0 bad | inr end ↦ (none place).1 end ]
+
+pub histories_have_no_bad_place : HistoriesHaveNoBadPlace
+histories_have_no_bad_place config h = (each, λ none. (histories_have_no_first_bad_place config h).1 (first_is_bad config h none))
+  where
+    each : IsHistory config h → (place : ℕ) → (¬ IsBadAt config h place) × (¬ IsUnsettledAt config h place)
+    each history place = (λ bad. bad.bad (history.each bad.index bad.entry bad.is_entry), λ end. end.unsettled history.settled)

@@ -15,13 +15,13 @@ use Rattle.partition_keys.specs.declared.group.GroupKey.{GroupKey}
 use Rattle.pool_changes.specs.Connections.{gone}
 use Rattle.pool_laws.proofs.FitLemmas.{IsFit, closes}
 use Rattle.pool_laws.proofs.TurnLemmas.{IsClaim, not_shut, none_waits}
-use Rattle.pool_laws.proofs.YieldLemmas.{Yields, none_ends, yields_same, yields_end, yields_trans, yields_ended_unless, yields_ended_if_waiting, yields_timed_out, yields_lease_after, yields_handed}
+use Rattle.pool_laws.proofs.YieldLemmas.{Yields, none_ends, unsent_leased, yields_same, yields_end, yields_trans, yields_ended_unless, yields_ended_if_waiting, yields_timed_out, yields_lease_after, yields_handed}
 use Rattle.pool_rules.proofs.EditLemmas.{edit_other, edit_at, map_at, append_at, each_one}
 use Rattle.pool_rules.specs.Replies.{IsSubmitReply}
 use Rattle.pool_steps.specs.After.{after_submit, after_cancel, after_reprioritise, after_preconnect, after_resolved, after_network, after_shut, after_dial, after_orders, after_useless, is_useless, after_identity_of, after_open_of, after_open, after_answered, after_leases, after_alt_seen, after_report, is_dial_failed, after_failed_dial, after_closed, after_expire, after_lapse, after_assign, after_want_of, after_want, after_evict, sent_noted, after_act}
 use Rattle.pool_steps.specs.Exchanges.{new_exchange, with_status, ended_by, with_urgency, timed_out, ended_unless, ended_if_waiting, lease_after, handed_by}
 use Rattle.pool_ways.specs.Lists.{numbered, edit}
-use Rattle.pool_ways.specs.Statuses.{has_ended, is_at}
+use Rattle.pool_ways.specs.Statuses.{has_ended, is_at, is_unsent_at}
 use Rattle.pool_values.specs.declared.entry.Act.{Act}
 use Rattle.pool_values.specs.declared.entry.Act.TheVariants.{Submit, Cancel, Reprioritise, Preconnect, Resolved, Network, Tick, Shutdown, Dial, Orders, Reported, Closed, Expire, Lapse, Assign, Want, Evict}
 use Rattle.pool_values.specs.declared.entry.Way.{Way}
@@ -148,6 +148,10 @@ yielded_closed shut s conn c act =
 abbrev pub HasLease : ConnNo → StreamNo → Option Exchange → Type 0
 HasLease c r o = IsSomeAnd o (λ x. IsTrue (is_at c r x.status))
 
+-- the same, and its start isn't handed yet
+abbrev pub HasUnsent : ConnNo → StreamNo → Option Exchange → Type 0
+HasUnsent c r o = IsSomeAnd o (λ x. IsTrue (is_unsent_at c r x.status))
+
 abbrev pub HasEnded : Option Exchange → Type 0
 HasEnded None = Unit {0}
 HasEnded (Some x) = has_ended x.status ≡ true
@@ -163,16 +167,22 @@ pub record IsGiven (act : Act) (n : ℕ) (c : ConnNo) (r : StreamNo) : Type 0 wh
   pub is_conn : c.0 ≡ conn.0
   pub is_stream : r.0 ≡ stream.0
 
--- a lease behind the act was there before, on a connection that didn't end, or is the one that the act gives
+-- a lease behind the act was there before, on a connection that didn't end, or is the one that the act gives; and one that isn't handed
+-- wasn't
 pub record Releases (shut : Bool) (act : Act) (n : ℕ) (o p : Option Exchange) : Type 0 where
   pub leases : (c : ConnNo) (r : StreamNo) → HasLease c r p → (HasLease c r o × (closes act c.0 ≡ false)) ⊎ IsGiven act n c r
   pub ended : shut ≡ true → HasEnded o → HasEnded p
+  pub unsent : (c : ConnNo) (r : StreamNo) → HasUnsent c r p → HasUnsent c r o ⊎ IsGiven act n c r
 
 releases_by : (shut : Bool) (act : Act) (n : ℕ) (o p : Option Exchange) → YieldsAt shut (closes act) o p → Releases shut act n o p
-releases_by shut act n None None k = record { leases = λ c r h. absurd h; ended = λ t h. tt }
-releases_by shut act n None (Some y) k = record { leases = λ c r h. absurd (k.1 c r h); ended = λ t h. absurd (both_ways shut k.0 t) }
+releases_by shut act n None None k = record { leases = λ c r h. absurd h; ended = λ t h. tt; unsent = λ c r h. absurd h }
+releases_by shut act n None (Some y) k = record {
+  leases = λ c r h. absurd (k.1 c r h);
+  ended = λ t h. absurd (both_ways shut k.0 t);
+  unsent = λ c r h. absurd (k.1 c r (unsent_leased c r y.status h));
+}
 releases_by shut act n (Some x) None k = absurd k
-releases_by shut act n (Some x) (Some y) k = record { leases = λ c r h. inl (k.leases c r h); ended = λ t h. k.ended h }
+releases_by shut act n (Some x) (Some y) k = record { leases = λ c r h. inl (k.leases c r h); ended = λ t h. k.ended h; unsent = λ c r h. inl (k.unsent c r h) }
 
 -- ---- any act
 
@@ -207,7 +217,7 @@ yielded_act shut s who (Cancel e cancel.Cancelled) claim fit plain = yielded_edi
 yielded_act shut s who (Reprioritise e urgency change.Unknown) claim fit plain = yielded_same shut s.exchanges
 yielded_act shut s who (Reprioritise e urgency change.Ended) claim fit plain = yielded_same shut s.exchanges
 yielded_act shut s who (Reprioritise e urgency change.Changed) claim fit plain =
-    yielded_edit shut e.0 (with_urgency urgency) s.exchanges (λ x. record { leases = λ c r h. (h, refl); ended = λ h. h })
+    yielded_edit shut e.0 (with_urgency urgency) s.exchanges (λ x. record { leases = λ c r h. (h, refl); ended = λ h. h; unsent = λ c r h. h })
 yielded_act shut s who (Preconnect key credentials origin count (preconnect.Closed place)) claim fit plain = yielded_same shut s.exchanges
 yielded_act shut s who (Preconnect key credentials origin count (preconnect.NoRoom total in_group)) claim fit plain = yielded_same shut s.exchanges
 yielded_act shut s who (Preconnect key credentials origin count (preconnect.Opening k)) claim fit plain = yielded_same shut s.exchanges
@@ -243,21 +253,25 @@ releases_assign shut s e c r way fresh n =
     same : (o : Option Exchange) → Releases shut (Assign e c r way) n o o
     same o = releases_by shut (Assign e c r way) n o o (yields_none shut o)
 
+    is_given : n ≡ e.0 → (d : ConnNo) (t : StreamNo) → is_at d t (Leased c r way false) ≡ true → IsGiven (Assign e c r way) n d t
+    is_given here d t h =
+        let parts = and_parts (c.0 == d.0) (r.0 == t.0) h in
+        record {
+          exchange = e;
+          conn = c;
+          stream = r;
+          by = way;
+          is_assign = refl;
+          is_exchange = here;
+          is_conn = sym (eqb-true c.0 d.0 parts.0);
+          is_stream = sym (eqb-true r.0 t.0 parts.1);
+        }
+
     given : n ≡ e.0 → (x : Exchange) → Releases shut (Assign e c r way) n (Some x) (Some (with_status (Leased c r way false) x))
     given here x = record {
-      leases = λ d t h.
-          let parts = and_parts (c.0 == d.0) (r.0 == t.0) h in
-          inr (record {
-            exchange = e;
-            conn = c;
-            stream = r;
-            by = way;
-            is_assign = refl;
-            is_exchange = here;
-            is_conn = sym (eqb-true c.0 d.0 parts.0);
-            is_stream = sym (eqb-true r.0 t.0 parts.1);
-          });
+      leases = λ d t h. inr (is_given here d t h);
       ended = λ t h. absurd (both_ways shut fresh t);
+      unsent = λ d t h. inr (is_given here d t (unsent_leased d t (Leased c r way false) h));
     }
 
 pub releases_act : (shut : Bool) (s : AbstractPool) (who : CallerNo) (act : Act) → IsClaim shut s → IsFit s act →

@@ -1,5 +1,5 @@
 -- What a worker may say stays so while others go on, since it is read off the worker's own entries.
-use Rattle.std.proofs.Common.{◌≡◌, ◌≢◌, ◌≤◌, inl, inr, ℕ, List, [], ◌∷◌, ◌++◌, None, true, false, cond, refl, sym, ap, subst, ◌∙◌, append-nil, IsSomeAnd}
+use Rattle.std.proofs.Common.{◌≡◌, ◌≢◌, ◌≤◌, ◌<◌, ◌⊎◌, length, arith, Some, IsTrue, inl, inr, ℕ, List, [], ◌∷◌, ◌++◌, None, true, false, cond, refl, sym, ap, subst, ◌∙◌, append-nil, IsSomeAnd}
 use Rattle.std.specs.Prelude.{◌==◌}
 use Rattle.std.proofs.lemmas.Bool.{cond-false, ne_eqb}
 use Rattle.std.proofs.lemmas.List.Elements.{All-head, All-tail, filter-append}
@@ -7,20 +7,26 @@ use Rattle.net_base.specs.declared.end_cause.EndCause.{EndCause}
 use Rattle.net_base.specs.declared.numbers.CallerNo.{CallerNo}
 use Rattle.net_base.specs.declared.numbers.ConnNo.{ConnNo}
 use Rattle.net_base.specs.declared.numbers.Moment.{Moment}
-use Rattle.pool_laws.specs.WorkerLaws.{GoesOn, IsWorkersWord, WorkersWordsStayLegal, WorkersMayGoOnAsking, OthersChangeNoOwnCalls}
+use Rattle.pool_laws.specs.WorkerLaws.{GoesOn, IsWorkersWord, WorkersWordsStayLegal, WorkersMayGoOnTaking, WorkersMayGoOnAsking, OthersChangeNoOwnCalls}
 use Rattle.pool_rules.proofs.AllowedLemmas.{reports_as_state_says, ends_as_state_says, works_as_state_says}
 use Rattle.pool_rules.specs.Histories.{run}
-use Rattle.pool_rules.specs.Legal.{MayTell, MayEnd, IsReply}
+use Rattle.pool_rules.specs.Legal.{IsWorkersEntry, MayTake, MayOrder, MayTell, MayEnd, IsReply, IsLegal}
 use Rattle.pool_rules.specs.Port.{PortView, NoneOf, Held, held_from, MayWork, IsReportable, IsEndable}
 use Rattle.pool_rules.specs.Reading.{calls_of, given_by, Own, own_from}
+use Rattle.pool_rules.specs.Working.{MayWorkAt}
 use Rattle.pool_settling.specs.Settling.{IsDue}
 use Rattle.pool_steps.specs.After.{noted}
 use Rattle.pool_values.specs.declared.config.Config.{Config}
 use Rattle.pool_values.specs.declared.entry.Act.{Act}
 use Rattle.pool_values.specs.declared.entry.Act.TheVariants.{Submit, Cancel, Reprioritise, Preconnect, Resolved, Network, Tick, Shutdown, Dial, Orders, Reported, Closed, Expire, Lapse, Assign, Want, Evict}
 use Rattle.pool_values.specs.declared.entry.Entry.{Entry}
+use Rattle.pool_values.specs.declared.order.OrderMark.{OrderMark}
 use Rattle.pool_values.specs.declared.report.Report.{Report}
 use Rattle.pool_values.specs.declared.state.AbstractPool.{AbstractPool}
+use Rattle.pool_values.specs.declared.state.Connection.{Connection}
+use Rattle.pool_ways.proofs.NumberLemmas.{and_value, value_and}
+use Rattle.pool_ways.specs.Lists.{numbered}
+use Rattle.pool_ways.specs.Statuses.{is_busy}
 
 -- ---- what is read off a history
 
@@ -143,3 +149,47 @@ workers_words_stay_legal config h more e goes word legal = elim legal [
   | inl pools ↦ absurd (not_due (run config h) e.act word pools.due)
   | inr calls ↦ inr (record { caller = calls.caller; reply = still_replies config e.who h more e.moment e.act goes word calls.reply })
 ]
+
+-- ---- what a worker may take
+
+order_item : (x : OrderMark) (xs : List OrderMark) → 0 < length (x ∷ xs)
+order_item x xs = omega arith
+
+-- the orders of a connection are none, or may be taken
+none_or_taken : (s : AbstractPool) (who : CallerNo) (c : ConnNo) (sent : ℕ) (y : Connection) → numbered c.0 s.connections ≡ Some y → IsWorkersEntry y who sent → IsTrue (is_busy y.phase) →
+    (y.orders ≡ []) ⊎ MayOrder s who c sent y.orders
+none_or_taken s who c sent y is_item own busy = by y.orders refl
+  where
+    by : (orders : List OrderMark) → orders ≡ y.orders → (orders ≡ []) ⊎ MayOrder s who c sent orders
+    by [] same = inl refl
+    by (x ∷ xs) same = inr (and_value (numbered c.0 s.connections) (λ z. IsWorkersEntry z who sent × MayTake z (x ∷ xs)) y is_item (own, (busy, same, order_item x xs)))
+
+-- whoever may take orders may ask for them
+asks : (s : AbstractPool) (who : CallerNo) (c : ConnNo) (sent : ℕ) (orders : List OrderMark) → MayOrder s who c sent orders → MayWorkAt s who c sent
+asks s who c sent orders may =
+    let v = value_and (numbered c.0 s.connections) (λ x. IsWorkersEntry x who sent × MayTake x orders) may in
+    and_value (numbered c.0 s.connections) (λ x. IsWorkersEntry x who sent × IsTrue (is_busy x.phase)) v.0 v.1 (v.2.0, v.2.1.0)
+
+-- an entry that takes orders, and what its legality asks of the state
+pub may_order : (s : AbstractPool) (e : Entry) (c : ConnNo) (sent : ℕ) (orders : List OrderMark) → e.act ≡ Orders c sent orders → IsLegal s e → (e.who.0 ≢ 0) × MayOrder s e.who c sent orders
+unfolding noted
+may_order s e c sent orders is legal = elim legal [
+  | inl pools ↦ let due : IsDue s (Orders c sent orders) = subst (IsDue s) is pools.due in absurd due
+  | inr calls ↦ (calls.caller, subst (IsReply (noted s e.moment) e.who) is calls.reply)
+]
+
+takes_legally : (s : AbstractPool) (e : Entry) (c : ConnNo) (sent : ℕ) (orders : List OrderMark) → e.who.0 ≢ 0 → MayOrder s e.who c sent orders → IsLegal s (record e { act = Orders c sent orders })
+unfolding noted
+takes_legally s e c sent orders caller may = inr (record { caller = caller; reply = may })
+
+pub workers_may_go_on_taking : WorkersMayGoOnTaking
+workers_may_go_on_taking config h more e c sent orders goes is legal =
+    let s : AbstractPool = run config (h ++ more) in
+    let may = may_order (run config h) e c sent orders is legal in
+    let works = workers_may_go_on_asking config h more e.who c sent goes (asks (run config h) e.who c sent orders may.1) in
+    let v = value_and (numbered c.0 s.connections) (λ x. IsWorkersEntry x e.who sent × IsTrue (is_busy x.phase)) works in
+    and_value (numbered c.0 s.connections) (λ y. (y.orders ≡ []) ⊎ IsLegal s (record e { act = Orders c sent y.orders })) v.0 v.1
+    (elim (none_or_taken s e.who c sent v.0 v.1 v.2.0 v.2.1) [
+      | inl none ↦ inl none
+      | inr taken ↦ inr (takes_legally s e c sent v.0.orders may.0 taken)
+    ])

@@ -22,7 +22,7 @@ pub record AnswersFor (host : List ℕ) (shown : Option Identity) : Type 0 where
   pub secure : identity.secure ≡ true
   pub covers : Covers identity host
 
--- the connection was opened for the exchange's partition and credentials mode, and for an https origin its other side answers
+-- the connection was opened for the exchange's partition key and credentials, and for an https origin its other side answers
 pub record IsKeptApart (x : Exchange) (y : Connection) : Type 0 where
   pub key : y.group.key ≡ x.ask.key
   pub credentials : y.group.credentials ≡ x.ask.credentials

@@ -3,7 +3,8 @@
 use Rattle.std.specs.Prelude.{◌≡◌, ℕ, List, Some, IsSomeAnd, take, slice_get}
 use Rattle.net_base.specs.declared.numbers.ConnNo.{ConnNo}
 use Rattle.net_base.specs.declared.numbers.ExchangeNo.{ExchangeNo}
-use Rattle.pool_rules.specs.Histories.{run, IsHistory}
+use Rattle.net_base.specs.declared.numbers.Moment.{Moment}
+use Rattle.pool_rules.specs.Histories.{now_of, run, IsHistory}
 use Rattle.pool_values.specs.declared.config.Config.{Config}
 use Rattle.pool_values.specs.declared.entry.Entry.{Entry}
 use Rattle.pool_values.specs.declared.state.AbstractPool.{AbstractPool}
@@ -14,6 +15,10 @@ use Rattle.pool_ways.specs.Lists.{numbered}
 -- the state after the first n entries
 abbrev pub state_at : Config → List Entry → ℕ → AbstractPool
 state_at config h n = run config (take n h)
+
+-- the greatest moment of the first n entries, 0 where there are none
+abbrev pub moment_at : List Entry → ℕ → Moment
+moment_at h n = record { 0 = now_of (take n h) }
 
 -- in a history, this entry comes after n others
 pub record Comes (config : Config) (h : List Entry) (n : ℕ) (e : Entry) : Type 0 where

@@ -1,8 +1,10 @@
 -- Ends are final: of exchanges, of connections, and of the pool.
-use Rattle.std.specs.Prelude.{◌≡◌, ◌≢◌, ◌<◌, ◌≤◌, ⊤, ℕ, List, Some}
+use Rattle.std.specs.Prelude.{◌≡◌, ◌≢◌, ◌<◌, ◌≤◌, ◌+◌, ⊤, ℕ, List, [], Some, IsTrue}
+use Rattle.net_base.specs.declared.end_cause.EndCause.{EndCause}
 use Rattle.net_base.specs.declared.numbers.ConnNo.{ConnNo}
 use Rattle.net_base.specs.declared.numbers.ExchangeNo.{ExchangeNo}
 use Rattle.net_base.specs.declared.numbers.StreamNo.{StreamNo}
+use Rattle.pool_changes.specs.Connections.{streams_started}
 use Rattle.pool_laws.specs.Courses.{state_at, Comes, OfExchange, OfConnection}
 use Rattle.pool_laws.specs.Sound.{IsShutDown}
 use Rattle.pool_rules.specs.Histories.{IsHistory}
@@ -11,6 +13,7 @@ use Rattle.pool_values.specs.declared.entry.Act.{Act}
 use Rattle.pool_values.specs.declared.entry.Act.TheVariants.{Submit, Cancel, Reprioritise, Preconnect, Resolved, Network, Tick, Shutdown, Dial, Orders, Reported, Closed, Expire, Lapse, Assign, Want, Evict}
 use Rattle.pool_values.specs.declared.entry.Entry.{Entry}
 use Rattle.pool_values.specs.declared.entry.Way.{Way}
+use Rattle.pool_values.specs.declared.order.OrderMark.{OrderMark}
 use Rattle.pool_values.specs.declared.outcome.Outcome.{Outcome}
 use Rattle.pool_values.specs.declared.reply.PreconnectReply.TheVariants as preconnect
 use Rattle.pool_values.specs.declared.reply.ShutReply.TheVariants as shut
@@ -20,6 +23,7 @@ use Rattle.pool_values.specs.declared.state.Phase.{Phase}
 use Rattle.pool_values.specs.declared.state.Phase.TheVariants.{Wanted, Dialing, Open, Draining, Closing, Gone}
 use Rattle.pool_values.specs.declared.state.Status.TheVariants.{Ended}
 use Rattle.pool_ways.specs.Lists.{numbered}
+use Rattle.pool_ways.specs.Statuses.{is_closing}
 
 -- an exchange that has ended stays so, with its outcome
 abbrev pub EndedStaysEnded : Type 0
@@ -53,6 +57,18 @@ abbrev pub OnlyOpenOnesAreAssigned : Type 0
 OnlyOpenOnesAreAssigned =
     (config : Config) (h : List Entry) (n : ℕ) (e : Entry) (x : ExchangeNo) (c : ConnNo) (r : StreamNo) (by : Way) →
     Comes config h n e → e.act ≡ Assign x c r by → OfConnection (state_at config h n) c (λ y. y.phase ≡ Open)
+
+-- a worker that takes the orders of a connection that closes is to start nothing
+abbrev pub ClosingOnesStartNothing : Type 0
+ClosingOnesStartNothing =
+    (config : Config) (h : List Entry) (n : ℕ) (e : Entry) (c : ConnNo) (sent : ℕ) (orders : List OrderMark) (y : Connection) →
+    Comes config h n e → e.act ≡ Orders c sent orders → numbered c.0 (state_at config h n).connections ≡ Some y → IsTrue (is_closing y.phase) → streams_started orders ≡ []
+
+-- behind the entry by which its worker gives it up a connection is gone
+abbrev pub ClosedOnesAreGone : Type 0
+ClosedOnesAreGone =
+    (config : Config) (h : List Entry) (n : ℕ) (e : Entry) (c : ConnNo) (sent : ℕ) (cause : EndCause) (heard : List StreamNo) →
+    Comes config h n e → e.act ≡ Closed c sent cause heard → OfConnection (state_at config h (n + 1)) c (λ y. y.phase ≡ Gone)
 
 -- the entry takes no exchange, assigns none, and makes or dials no connection
 abbrev pub BeginsNothing : Act → Type 0

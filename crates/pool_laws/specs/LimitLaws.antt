@@ -43,9 +43,9 @@ ConnectionsStayWithinLimits = (config : Config) (h : List Entry) (n : ℕ) → I
 
 -- ---- streams
 
--- RFC 9113, section 5.1.2: on HTTP/2 the live streams are below what the peer allows, and below the pool's own limit; RFC 9112,
--- section 9.3.2, without pipelining: on HTTP/1.1 there is none. Its next stream is no
--- later than the last one
+-- RFC 9113, section 5.1.2: on HTTP/2 the live streams are below what the peer allows, and below the pool's own limit, which is this
+-- project's own; RFC 9112, section 9.3.2, without pipelining: on HTTP/1.1 there is none. The next stream is no later than the last one
+-- that the limits allow, which is this project's own too
 pub record HasPlace (config : Config) (y : Connection) : Type 0 where
   pub h2 : IsTrue (speaks_h2 y) → (length y.live < config.streams) × (length y.live < y.peer_limit)
   pub h1 : (¬ IsTrue (speaks_h2 y)) → y.live ≡ []
@@ -56,6 +56,15 @@ abbrev pub AssignsHavePlace : Type 0
 AssignsHavePlace =
     (config : Config) (h : List Entry) (n : ℕ) (e : Entry) (x : ExchangeNo) (c : ConnNo) (r : StreamNo) (by : Way) →
     Comes config h n e → e.act ≡ Assign x c r by → OfConnection (state_at config h n) c (HasPlace config)
+
+-- so at each state of a history, whatever the peer has allowed since, no more are live than the pool's own limit, and one on HTTP/1.1
+pub record HasStreamsWithin (config : Config) (y : Connection) : Type 0 where
+  pub h2 : IsTrue (speaks_h2 y) → length y.live ≤ config.streams
+  pub h1 : (¬ IsTrue (speaks_h2 y)) → length y.live ≤ 1
+
+abbrev pub StreamsStayWithinLimits : Type 0
+StreamsStayWithinLimits =
+    (config : Config) (h : List Entry) (n number : ℕ) (y : Connection) → IsHistory config h → numbered number (state_at config h n).connections ≡ Some y → HasStreamsWithin config y
 
 -- ---- moves
 

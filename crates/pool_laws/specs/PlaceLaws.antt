@@ -1,13 +1,17 @@
 -- Histories and their bad places.
 use Rattle.std.specs.Prelude.{◌≡◌, ◌↔◌, ℕ, List, take}
-use Rattle.pool_rules.specs.Histories.{run, IsHistory, IsFirstBad}
+use Rattle.pool_rules.specs.Histories.{run, IsHistory, IsBadAt, IsUnsettledAt, IsFirstBad}
 use Rattle.pool_settling.specs.Settling.{IsSettled}
 use Rattle.pool_values.specs.declared.config.Config.{Config}
 use Rattle.pool_values.specs.declared.entry.Entry.{Entry}
 
--- a list of entries is a history exactly where no place of it is the first bad one
+-- a list of entries is a history exactly where no place of it is bad
 abbrev pub HistoriesHaveNoBadPlace : Type 0
-HistoriesHaveNoBadPlace = (config : Config) (h : List Entry) → IsHistory config h ↔ ((place : ℕ) → ¬ IsFirstBad config h place)
+HistoriesHaveNoBadPlace = (config : Config) (h : List Entry) → IsHistory config h ↔ ((place : ℕ) → (¬ IsBadAt config h place) × (¬ IsUnsettledAt config h place))
+
+-- and exactly where no place of it is the first bad one
+abbrev pub HistoriesHaveNoFirstBadPlace : Type 0
+HistoriesHaveNoFirstBadPlace = (config : Config) (h : List Entry) → IsHistory config h ↔ ((place : ℕ) → ¬ IsFirstBad config h place)
 
 -- no list has two first bad places
 abbrev pub FirstBadPlaceIsOne : Type 0

@@ -1,4 +1,4 @@
--- Settling: what the pool does by itself is determined, comes to an end, and leaves nobody waiting for what is there. All of it
+-- Settling: what the pool does by itself is determined, comes to an end, and leaves no eligible exchange waiting for what is there. All of it
 -- holds at every state, whether a history leads there or not.
 use Rattle.std.specs.Prelude.{◌≡◌, ⊤, ℕ, List, [], ◌∷◌, Some, IsTrue}
 use Rattle.pool_rules.specs.Histories.{run_from}

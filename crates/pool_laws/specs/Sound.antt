@@ -1,10 +1,11 @@
 -- What holds of every state that a history goes through. `reached_is_sound` proves it; what is built over the abstract pool may
 -- rest on it.
-use Rattle.std.specs.Prelude.{◌≡◌, ◌<◌, ◌≤◌, ℕ, List, Some, IsTrue, IsSome, IsSomeAnd, AllPairs, length}
+use Rattle.std.specs.Prelude.{◌≡◌, ◌<◌, ◌≤◌, ℕ, List, [], Some, IsTrue, IsSome, IsSomeAnd, All, AllPairs, Contains, length}
 use Rattle.net_base.specs.declared.numbers.ConnNo.{ConnNo}
 use Rattle.net_base.specs.declared.numbers.StreamNo.{StreamNo}
 use Rattle.partition_keys.specs.Equality.{same_group}
 use Rattle.partition_keys.specs.declared.group.GroupKey.{GroupKey}
+use Rattle.pool_changes.specs.Connections.{streams_started}
 use Rattle.pool_laws.specs.Courses.{state_at}
 use Rattle.pool_rules.specs.Histories.{IsHistory}
 use Rattle.pool_settling.specs.Counts.{count_total, count_in_group}
@@ -14,10 +15,10 @@ use Rattle.pool_values.specs.declared.state.AbstractPool.{AbstractPool}
 use Rattle.pool_values.specs.declared.state.Connection.{Connection}
 use Rattle.pool_values.specs.declared.state.Exchange.{Exchange}
 use Rattle.pool_ways.specs.Lists.{numbered}
-use Rattle.pool_ways.specs.Statuses.{has_ended, is_wanted, is_open, is_draining, is_busy, is_at}
+use Rattle.pool_ways.specs.Statuses.{has_ended, is_wanted, is_open, is_draining, is_closing, is_opening, is_busy, is_at, is_unsent_at, speaks_h2}
 use Rattle.pool_ways.specs.Ways.{is_row_of, is_host_row_of}
 
--- the connection was opened and isn't gone, and the stream's number was given
+-- the connection was opened and isn't gone, and the stream's number is below the next one
 pub record Carries (y : Connection) (r : StreamNo) : Type 0 where
   pub busy : IsTrue (is_busy y.phase)
   pub given : r.0 < y.next_stream
@@ -31,6 +32,28 @@ abbrev pub LeasesAreApart : AbstractPool → Type 0
 LeasesAreApart s =
     (n m : ℕ) (x y : Exchange) (c : ConnNo) (r : StreamNo) → numbered n s.exchanges ≡ Some x → numbered m s.exchanges ≡ Some y →
     IsTrue (is_at c r x.status) → IsTrue (is_at c r y.status) → n ≡ m
+
+-- a lease on a stream that was started isn't unsent
+abbrev pub StartedAreSent : AbstractPool → Type 0
+StartedAreSent s =
+    (number : ℕ) (x : Exchange) (c : ConnNo) (r : StreamNo) (y : Connection) → numbered number s.exchanges ≡ Some x → IsTrue (is_unsent_at c r x.status) →
+    numbered c.0 s.connections ≡ Some y → ¬ Contains y.started r
+
+-- no stream was started, is ordered to start, or is live
+pub record HasNoStreams (y : Connection) : Type 0 where
+  pub started : y.started ≡ []
+  pub ordered : streams_started y.orders ≡ []
+  pub live : y.live ≡ []
+
+-- a connection's streams have numbers below the next one; one that isn't up yet has none, one that closes starts none; and no more of
+-- them are live than the pool's own limit allows on HTTP/2, and one on HTTP/1.1
+pub record IsOrderly (config : Config) (y : Connection) : Type 0 where
+  pub started : All (λ r. r.0 < y.next_stream) y.started
+  pub ordered : All (λ r. r.0 < y.next_stream) (streams_started y.orders)
+  pub opening : IsTrue (is_opening y.phase) → HasNoStreams y
+  pub closing : IsTrue (is_closing y.phase) → streams_started y.orders ≡ []
+  pub h2 : IsTrue (speaks_h2 y) → length y.live ≤ config.streams
+  pub h1 : (¬ IsTrue (speaks_h2 y)) → length y.live ≤ 1
 
 -- a pool that was shut down has ended each exchange, and has no connection that is wanted, open or draining
 pub record IsShutDown (s : AbstractPool) : Type 0 where
@@ -49,6 +72,8 @@ pub record IsSound (config : Config) (s : AbstractPool) : Type 0 where
   pub limits : s.config ≡ config
   pub carried : LeasesAreCarried s
   pub apart : LeasesAreApart s
+  pub sent : StartedAreSent s
+  pub orderly : (number : ℕ) (y : Connection) → numbered number s.connections ≡ Some y → IsOrderly config y
   pub moves : (number : ℕ) (x : Exchange) → numbered number s.exchanges ≡ Some x → x.moves ≤ 5
   pub shut : IsSome s.shutdown → IsShutDown s
   pub total : count_total s ≤ config.total

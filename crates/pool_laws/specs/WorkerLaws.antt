@@ -1,7 +1,8 @@
 -- A worker's turn stays lawful, whatever others do meanwhile.
-use Rattle.std.specs.Prelude.{◌≡◌, ◌++◌, ⊤, ℕ, List}
+use Rattle.std.specs.Prelude.{◌≡◌, ◌⊎◌, ◌++◌, ⊤, ℕ, List, []}
 use Rattle.net_base.specs.declared.numbers.CallerNo.{CallerNo}
 use Rattle.net_base.specs.declared.numbers.ConnNo.{ConnNo}
+use Rattle.pool_laws.specs.Courses.{OfConnection}
 use Rattle.pool_rules.specs.Histories.{run, IsHistory}
 use Rattle.pool_rules.specs.Legal.{IsLegal}
 use Rattle.pool_rules.specs.Port.{NoneOf}
@@ -11,6 +12,7 @@ use Rattle.pool_values.specs.declared.config.Config.{Config}
 use Rattle.pool_values.specs.declared.entry.Act.{Act}
 use Rattle.pool_values.specs.declared.entry.Act.TheVariants.{Submit, Cancel, Reprioritise, Preconnect, Resolved, Network, Tick, Shutdown, Dial, Orders, Reported, Closed, Expire, Lapse, Assign, Want, Evict}
 use Rattle.pool_values.specs.declared.entry.Entry.{Entry}
+use Rattle.pool_values.specs.declared.order.OrderMark.{OrderMark}
 
 -- what others do: this history goes on as that one, without an entry of the caller
 pub record GoesOn (config : Config) (who : CallerNo) (h more : List Entry) : Type 0 where
@@ -18,7 +20,8 @@ pub record GoesOn (config : Config) (who : CallerNo) (h more : List Entry) : Typ
   pub later : IsHistory config (h ++ more)
   pub others : NoneOf who more
 
--- a worker's report, or its giving up of the connection: these name nothing but what its own entries gave it
+-- a worker's report, or its giving up of the connection. That these are legal asks for nothing but what its own entries gave it; which
+-- connection is to be dialed, and which orders are pending, is up to the pool
 abbrev pub IsWorkersWord : Act → Type 0
 IsWorkersWord (Reported c sent report) = ⊤
 IsWorkersWord (Closed c sent cause heard) = ⊤
@@ -43,7 +46,14 @@ abbrev pub WorkersWordsStayLegal : Type 0
 WorkersWordsStayLegal =
     (config : Config) (h more : List Entry) (e : Entry) → GoesOn config e.who h more → IsWorkersWord e.act → IsLegal (run config h) e → IsLegal (run config (h ++ more)) e
 
--- and where a worker may ask for the orders of its connection it may go on to ask. Which orders are pending is up to the pool
+-- where a worker may legally take the orders of its connection, it may afterwards take those that are pending then, or there are none
+abbrev pub WorkersMayGoOnTaking : Type 0
+WorkersMayGoOnTaking =
+    (config : Config) (h more : List Entry) (e : Entry) (c : ConnNo) (sent : ℕ) (orders : List OrderMark) →
+    GoesOn config e.who h more → e.act ≡ Orders c sent orders → IsLegal (run config h) e →
+    OfConnection (run config (h ++ more)) c (λ y. (y.orders ≡ []) ⊎ IsLegal (run config (h ++ more)) (record e { act = Orders c sent y.orders }))
+
+-- and where it may ask for the orders of its connection it may go on to ask
 abbrev pub WorkersMayGoOnAsking : Type 0
 WorkersMayGoOnAsking =
     (config : Config) (h more : List Entry) (who : CallerNo) (c : ConnNo) (sent : ℕ) → GoesOn config who h more → MayWorkAt (run config h) who c sent → MayWorkAt (run config (h ++ more)) who c sent

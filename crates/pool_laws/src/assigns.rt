@@ -3,15 +3,16 @@ ghost use Rattle.pool_laws.specs.AlternativeLaws.{AlternativesAreFresh};
 ghost use Rattle.pool_laws.specs.ApartLaws.{KeepsApart};
 ghost use Rattle.pool_laws.specs.EndLaws.{OnlyOpenOnesAreAssigned};
 
-/// At each Assign of a history the partition keys and the credentials modes of exchange and connection are equal, and an
+/// At each Assign of a history the partition keys and the credentials of exchange and connection are equal, and an
 /// https exchange goes only to a connection whose identity is secure and covers its host.
 #[tactic(auto, using(crate::proofs::AssignedLemmas::keeps_apart))]
 pub fn keeps_apart()
     ensures { KeepsApart }
 {}
 
-/// At each Assign of a history by the alternative way the connection goes to a fresh alternative of the exchange's origin in
-/// its partition, speaks its protocol, and has a secure identity that covers the origin's host. For http the alternative
+/// At each Assign of a history by the alternative way the connection goes to an alternative of the exchange's origin in its
+/// partition that is fresh at the greatest moment so far, speaks its protocol, and has a secure identity that covers the
+/// origin's host. For https it was opened for an https origin. For http it was opened for this very origin, the alternative
 /// speaks HTTP/2, and it is proven or the exchange is a probe.
 #[tactic(auto, using(crate::proofs::AssignedLemmas::alternatives_are_fresh))]
 pub fn alternatives_are_fresh()

@@ -1,6 +1,6 @@
 // The limits of a pool are kept.
 ghost use Rattle.pool_laws.specs.AlternativeLaws.{AlternativesAreFew};
-ghost use Rattle.pool_laws.specs.LimitLaws.{WantsStayBelowLimits, ConnectionsStayWithinLimits, AssignsHavePlace, ExchangesWaitAgainFiveTimes};
+ghost use Rattle.pool_laws.specs.LimitLaws.{WantsStayBelowLimits, ConnectionsStayWithinLimits, AssignsHavePlace, StreamsStayWithinLimits, ExchangesWaitAgainFiveTimes};
 
 /// At each Want of a history the connections that aren't gone are below the total, and those of the exchange's group below
 /// the group's limit.
@@ -20,6 +20,13 @@ pub fn connections_stay_within_limits()
 #[tactic(auto, using(crate::proofs::AssignedLemmas::assigns_have_place))]
 pub fn assigns_have_place()
     ensures { AssignsHavePlace }
+{}
+
+/// At each state of a history the live streams of an HTTP/2 connection are no more than `streams` of the limits, and an
+/// HTTP/1.1 connection has one at most.
+#[tactic(auto, using(crate::proofs::SoundLemmas::streams_stay_within_limits))]
+pub fn streams_stay_within_limits()
+    ensures { StreamsStayWithinLimits }
 {}
 
 /// In a history an exchange waits again at most five times.

@@ -7,9 +7,9 @@ pub fn moves_are_lawful()
     ensures { MovesAreLawful }
 {}
 
-/// An exchange that was handed has ended as lost, and stays so, once its connection has ended, where its method isn't
-/// idempotent, something of its answer was heard, or it was sent again once before because a connection ended (RFC 9110,
-/// section 9.2.2).
+/// An exchange that has a lease on a connection when that ends, and whose start was handed to it, has ended as lost from then
+/// on where its method isn't idempotent, something of its answer was heard, or it was sent again once before because a
+/// connection ended (RFC 9110, section 9.2.2).
 pub fn lost_exchanges_stay_lost()
     ensures { LostExchangesStayLost }
 {}

@@ -1,9 +1,14 @@
 // Histories and their bad places.
-ghost use Rattle.pool_laws.specs.PlaceLaws.{HistoriesHaveNoBadPlace, FirstBadPlaceIsOne, BeginningsAreHistories};
+ghost use Rattle.pool_laws.specs.PlaceLaws.{HistoriesHaveNoBadPlace, HistoriesHaveNoFirstBadPlace, FirstBadPlaceIsOne, BeginningsAreHistories};
 
-/// A list of entries is a history exactly where no place of it is the first bad one.
+/// A list of entries is a history exactly where no place of it is bad.
 pub fn histories_have_no_bad_place()
     ensures { HistoriesHaveNoBadPlace }
+{}
+
+/// A list of entries is a history exactly where no place of it is the first bad one.
+pub fn histories_have_no_first_bad_place()
+    ensures { HistoriesHaveNoFirstBadPlace }
 {}
 
 /// No list has two first bad places.
