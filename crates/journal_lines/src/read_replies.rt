@@ -1,5 +1,5 @@
 // Replies read back.
-ghost use Rattle.std.specs.Prelude.{map};
+ghost use Rattle.std.specs.Prelude.{◌≡◌, map, IfErr};
 ghost use Rattle.journal_words.specs.Readers.{Gives};
 ghost use Rattle.journal_lines.specs.LineReaders as spec;
 
@@ -50,7 +50,8 @@ fn submit_reply_at(word: &[u8], n: u64) -> Result<SubmitReply, WordFault>
 
 /// The reply to a cancel.
 pub fn read_cancel_reply(word: &[u8]) -> Result<CancelReply, WordFault>
-    ensures { Gives result (spec.cancel_reply word.now) }
+    ensures gives { Gives result (spec.cancel_reply word.now) }
+    ensures no_memory { IfErr result (λ e. e ≡ WordFault.Unreadable) }
 {
     if word == b"cancelled".as_slice() {
         Ok(CancelReply::Cancelled)
@@ -65,7 +66,8 @@ pub fn read_cancel_reply(word: &[u8]) -> Result<CancelReply, WordFault>
 
 /// The reply to a change of the urgency.
 pub fn read_change_reply(word: &[u8]) -> Result<ChangeReply, WordFault>
-    ensures { Gives result (spec.change_reply word.now) }
+    ensures gives { Gives result (spec.change_reply word.now) }
+    ensures no_memory { IfErr result (λ e. e ≡ WordFault.Unreadable) }
 {
     if word == b"changed".as_slice() {
         Ok(ChangeReply::Changed)

@@ -1,8 +1,9 @@
 //! How the journal writes values: octets in lower-case hexadecimal, numbers in decimal, lists with commas, `-` for what is
-//! empty; and how words stand in a line, each behind one space.
+//! empty; how words stand in a line, each behind one space; and how words are read back.
 //!
-//! Each function writes just the text that its definition says. The format is this project's own; what the values are is
-//! said by the Fetch Standard, RFC 7838 and RFC 8164.
+//! Each writer writes just the text that its definition says, and each reader gives just what its definition says of a word,
+//! which may be more than is written. The format is this project's own; what the values are is said by the Fetch Standard,
+//! RFC 7838 and RFC 8164.
 #![tactic(auto)]
 
 mod faults;

