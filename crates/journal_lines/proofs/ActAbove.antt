@@ -8,25 +8,25 @@ use Rattle.net_base.specs.declared.identity.Identity.{Identity}
 use Rattle.net_base.specs.declared.request.Request.{Request}
 use Rattle.net_base.specs.declared.response.Response.{Response}
 use Rattle.net_base.specs.Requests.{is_token}
-use Rattle.pool_values.specs.declared.entry.Act.{Act}
-use Rattle.pool_values.specs.declared.entry.Act.TheVariants as act
-use Rattle.pool_values.specs.declared.order.OrderMark.{OrderMark}
-use Rattle.pool_values.specs.declared.order.OrderMark.TheVariants as mark
-use Rattle.pool_values.specs.declared.reply.CancelReply.{CancelReply}
-use Rattle.pool_values.specs.declared.reply.CancelReply.TheVariants as cancelled
-use Rattle.pool_values.specs.declared.reply.ChangeReply.{ChangeReply}
-use Rattle.pool_values.specs.declared.reply.ChangeReply.TheVariants as changed
-use Rattle.pool_values.specs.declared.reply.PreconnectReply.{PreconnectReply}
-use Rattle.pool_values.specs.declared.reply.PreconnectReply.TheVariants as preconnected
-use Rattle.pool_values.specs.declared.reply.ResolvedReply.{ResolvedReply}
-use Rattle.pool_values.specs.declared.reply.ResolvedReply.TheVariants as resolved
-use Rattle.pool_values.specs.declared.reply.ShutReply.{ShutReply}
-use Rattle.pool_values.specs.declared.reply.ShutReply.TheVariants as shut
-use Rattle.pool_values.specs.declared.reply.SubmitReply.{SubmitReply}
-use Rattle.pool_values.specs.declared.reply.SubmitReply.TheVariants as submitted
-use Rattle.pool_values.specs.declared.report.Report.{Report}
-use Rattle.pool_values.specs.declared.report.Report.TheVariants as report
-use Rattle.pool_values.specs.declared.submission.Submission.{Submission}
+use Rattle.model_values.specs.declared.entry.Act.{Act}
+use Rattle.model_values.specs.declared.entry.Act.TheVariants as act
+use Rattle.model_values.specs.declared.order.OrderMark.{OrderMark}
+use Rattle.model_values.specs.declared.order.OrderMark.TheVariants as mark
+use Rattle.model_values.specs.declared.reply.CancelReply.{CancelReply}
+use Rattle.model_values.specs.declared.reply.CancelReply.TheVariants as cancelled
+use Rattle.model_values.specs.declared.reply.ChangeReply.{ChangeReply}
+use Rattle.model_values.specs.declared.reply.ChangeReply.TheVariants as changed
+use Rattle.model_values.specs.declared.reply.PreconnectReply.{PreconnectReply}
+use Rattle.model_values.specs.declared.reply.PreconnectReply.TheVariants as preconnected
+use Rattle.model_values.specs.declared.reply.ResolvedReply.{ResolvedReply}
+use Rattle.model_values.specs.declared.reply.ResolvedReply.TheVariants as resolved
+use Rattle.model_values.specs.declared.reply.ShutReply.{ShutReply}
+use Rattle.model_values.specs.declared.reply.ShutReply.TheVariants as shut
+use Rattle.model_values.specs.declared.reply.SubmitReply.{SubmitReply}
+use Rattle.model_values.specs.declared.reply.SubmitReply.TheVariants as submitted
+use Rattle.model_values.specs.declared.report.Report.{Report}
+use Rattle.model_values.specs.declared.report.Report.TheVariants as report
+use Rattle.model_values.specs.declared.submission.Submission.{Submission}
 use Rattle.journal_words.specs.Ranges.{Fits8, Fits16, Fits32, AddressFits}
 use Rattle.journal_words.specs.Words.{origin_text, alt_words, proof_words, target_words}
 use Rattle.journal_words.specs.Writable.{are_named, are_names, is_word, is_writable_alt}

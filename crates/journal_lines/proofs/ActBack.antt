@@ -11,19 +11,19 @@ use Rattle.net_base.specs.declared.target.Target.{Target}
 use Rattle.net_base.specs.Requests.{is_token}
 use Rattle.partition_keys.specs.declared.key.PartitionKey.{PartitionKey}
 use Rattle.partition_keys.specs.Sites.{site_text}
-use Rattle.pool_values.specs.declared.entry.Act.{Act}
-use Rattle.pool_values.specs.declared.entry.Act.TheVariants as act
-use Rattle.pool_values.specs.declared.entry.Way.{Way}
-use Rattle.pool_values.specs.declared.order.OrderMark.{OrderMark}
-use Rattle.pool_values.specs.declared.reply.CancelReply.{CancelReply}
-use Rattle.pool_values.specs.declared.reply.ChangeReply.{ChangeReply}
-use Rattle.pool_values.specs.declared.reply.PreconnectReply.{PreconnectReply}
-use Rattle.pool_values.specs.declared.reply.ResolvedReply.{ResolvedReply}
-use Rattle.pool_values.specs.declared.reply.ShutReply.{ShutReply}
-use Rattle.pool_values.specs.declared.reply.SubmitReply.{SubmitReply}
-use Rattle.pool_values.specs.declared.report.Report.{Report}
-use Rattle.pool_values.specs.declared.report.Report.TheVariants as report
-use Rattle.pool_values.specs.declared.submission.Submission.{Submission}
+use Rattle.model_values.specs.declared.entry.Act.{Act}
+use Rattle.model_values.specs.declared.entry.Act.TheVariants as act
+use Rattle.model_values.specs.declared.entry.Way.{Way}
+use Rattle.model_values.specs.declared.order.OrderMark.{OrderMark}
+use Rattle.model_values.specs.declared.reply.CancelReply.{CancelReply}
+use Rattle.model_values.specs.declared.reply.ChangeReply.{ChangeReply}
+use Rattle.model_values.specs.declared.reply.PreconnectReply.{PreconnectReply}
+use Rattle.model_values.specs.declared.reply.ResolvedReply.{ResolvedReply}
+use Rattle.model_values.specs.declared.reply.ShutReply.{ShutReply}
+use Rattle.model_values.specs.declared.reply.SubmitReply.{SubmitReply}
+use Rattle.model_values.specs.declared.report.Report.{Report}
+use Rattle.model_values.specs.declared.report.Report.TheVariants as report
+use Rattle.model_values.specs.declared.submission.Submission.{Submission}
 use Rattle.journal_words.specs.Ranges.{Fits32, Fits64}
 use Rattle.journal_words.specs.Readers.{WordsReader, unreadable, number, list, field, octets, either_word, key, credentials, origin, deadline, address, target, cause, stream, way_of}
 use Rattle.journal_words.specs.Words.{credentials_text, origin_text, fields_text, octets_text, deadline_text, addresses_text, target_words, cause_text, streams_text, way_text}

@@ -3,7 +3,7 @@ use Rattle.std.proofs.Common.{◌≡◌, ◌≢◌, ◌∙◌, sym, ap, subst, �
 use Rattle.std.proofs.lemmas.List.{same_from_push}
 use Rattle.std.proofs.lemmas.List.Elements.{All-nil, All-head, All-tail, All-append, All-weaker, All-from_recursion, recursion_from_All}
 use Rattle.net_base.specs.Results.{◌>>=◌}
-use Rattle.pool_values.specs.declared.entry.Entry.{Entry}
+use Rattle.model_values.specs.declared.entry.Entry.{Entry}
 use Rattle.journal_words.specs.Readers.{Gives, moment, parts}
 use Rattle.journal_words.specs.declared.faults.WordFault.{WordFault}
 use Rattle.journal_words.specs.declared.faults.WordFault.TheVariants as word

@@ -6,8 +6,8 @@ use Rattle.net_base.specs.declared.numbers.ConnNo.{ConnNo}
 use Rattle.net_base.specs.declared.numbers.ExchangeNo.{ExchangeNo}
 use Rattle.net_base.specs.declared.numbers.StreamNo.{StreamNo}
 use Rattle.net_base.specs.declared.request.Request.{Request}
-use Rattle.pool_values.specs.declared.order.OrderMark.{OrderMark}
-use Rattle.pool_values.specs.declared.reply.SubmitReply.{SubmitReply}
+use Rattle.model_values.specs.declared.order.OrderMark.{OrderMark}
+use Rattle.model_values.specs.declared.reply.SubmitReply.{SubmitReply}
 use Rattle.journal_words.specs.Ranges.{Fits8, Fits16, Fits32, Fits64, FieldFits, AddressFits, DeadlineFits, AltFits, ProofFits, CauseFits}
 use Rattle.journal_words.specs.Readers.{field, address, stream, parts, key, credentials, either_word, security, proto, list, name, way_of}
 use Rattle.journal_lines.specs.LineReaders.{small, large, exchange, conn, submit_reply, submit_reply_at, cancel_reply, change_reply, preconnect_reply, resolved_reply, resolved_reply_at, shut_reply, asked, asked_at, behind_equals, behind_six, terms, terms_at, submit, cancel, reprioritise, preconnect, resolved_at, shutdown, start, start_mark, reset_mark, reset_or_start, order_mark, order_marks_within, dial, orders, closed, opened, limit, response, alt_words_in, behind_alt, answered, reset, alt_seen, told_of, stream_report, report_at, reported, expire, lapse, assign, want, evict, settling, work, call, entry_at, entry}

@@ -4,8 +4,8 @@ use Rattle.std.proofs.lemmas.List.Elements.{All-head, All-tail}
 use Rattle.net_base.specs.Results.{◌>>=◌}
 use Rattle.net_base.specs.declared.numbers.ExchangeNo.{ExchangeNo}
 use Rattle.net_base.specs.declared.numbers.StreamNo.{StreamNo}
-use Rattle.pool_values.specs.declared.order.OrderMark.{OrderMark}
-use Rattle.pool_values.specs.declared.order.OrderMark.TheVariants as mark
+use Rattle.model_values.specs.declared.order.OrderMark.{OrderMark}
+use Rattle.model_values.specs.declared.order.OrderMark.TheVariants as mark
 use Rattle.journal_words.specs.Readers.{stream}
 use Rattle.journal_lines.specs.Lines.{order_words}
 use Rattle.journal_lines.specs.LineReaders.{exchange, start, start_mark, reset_mark, order_mark, order_marks_within, order_marks}

@@ -2,7 +2,7 @@
 use Rattle.std.proofs.Common.{◌≡◌, ◌⊎◌, inl, inr, ℕ, suc, ◌+◌, ◌-◌, ◌<◌, ◌≤◌, List, [], ◌∷◌, ◌++◌, Result, Ok, Err, IfOk, length, drop, length-append, append_assoc, append-nil, refl, ap, sym, ◌∙◌, arith}
 use Rattle.std.proofs.lemmas.List.{drop_all, length-drop, drop-drop}
 use Rattle.net_base.specs.Results.{◌>>=◌}
-use Rattle.pool_values.specs.declared.order.OrderMark.{OrderMark}
+use Rattle.model_values.specs.declared.order.OrderMark.{OrderMark}
 use Rattle.journal_words.specs.declared.faults.WordFault.{WordFault}
 use Rattle.journal_words.specs.declared.faults.WordFault.TheVariants as word
 use Rattle.journal_lines.specs.declared.read_works.MarkAndWords.{MarkAndWords}

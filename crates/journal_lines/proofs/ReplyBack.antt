@@ -3,18 +3,18 @@ use Rattle.std.proofs.Common.{◌≡◌, ◌∙◌, refl, ℕ, ◌≤◌, codes,
 use Rattle.net_base.specs.Results.{◌>>=◌}
 use Rattle.net_base.specs.declared.numbers.ConnNo.{ConnNo}
 use Rattle.net_base.specs.declared.numbers.ExchangeNo.{ExchangeNo}
-use Rattle.pool_values.specs.declared.reply.CancelReply.{CancelReply}
-use Rattle.pool_values.specs.declared.reply.CancelReply.TheVariants as cancelled
-use Rattle.pool_values.specs.declared.reply.ChangeReply.{ChangeReply}
-use Rattle.pool_values.specs.declared.reply.ChangeReply.TheVariants as changed
-use Rattle.pool_values.specs.declared.reply.PreconnectReply.{PreconnectReply}
-use Rattle.pool_values.specs.declared.reply.PreconnectReply.TheVariants as preconnected
-use Rattle.pool_values.specs.declared.reply.ResolvedReply.{ResolvedReply}
-use Rattle.pool_values.specs.declared.reply.ResolvedReply.TheVariants as resolved
-use Rattle.pool_values.specs.declared.reply.ShutReply.{ShutReply}
-use Rattle.pool_values.specs.declared.reply.ShutReply.TheVariants as shut
-use Rattle.pool_values.specs.declared.reply.SubmitReply.{SubmitReply}
-use Rattle.pool_values.specs.declared.reply.SubmitReply.TheVariants as submitted
+use Rattle.model_values.specs.declared.reply.CancelReply.{CancelReply}
+use Rattle.model_values.specs.declared.reply.CancelReply.TheVariants as cancelled
+use Rattle.model_values.specs.declared.reply.ChangeReply.{ChangeReply}
+use Rattle.model_values.specs.declared.reply.ChangeReply.TheVariants as changed
+use Rattle.model_values.specs.declared.reply.PreconnectReply.{PreconnectReply}
+use Rattle.model_values.specs.declared.reply.PreconnectReply.TheVariants as preconnected
+use Rattle.model_values.specs.declared.reply.ResolvedReply.{ResolvedReply}
+use Rattle.model_values.specs.declared.reply.ResolvedReply.TheVariants as resolved
+use Rattle.model_values.specs.declared.reply.ShutReply.{ShutReply}
+use Rattle.model_values.specs.declared.reply.ShutReply.TheVariants as shut
+use Rattle.model_values.specs.declared.reply.SubmitReply.{SubmitReply}
+use Rattle.model_values.specs.declared.reply.SubmitReply.TheVariants as submitted
 use Rattle.journal_words.specs.Ranges.{Fits32, Fits64}
 use Rattle.journal_words.specs.Readers.{number}
 use Rattle.journal_lines.specs.Lines.{submit_reply_words, cancel_reply_text, change_reply_text, preconnect_reply_words, resolved_reply_words, shut_reply_words}

@@ -11,8 +11,8 @@ use Rattle.partition_keys.specs.declared.alternative.AltUpdate.{AltUpdate}
 use Rattle.partition_keys.specs.declared.alternative.AltUpdate.TheVariants as alt
 use Rattle.partition_keys.specs.declared.alternative.Proof.{Proof}
 use Rattle.partition_keys.specs.declared.alternative.Proof.TheVariants.{NotAsked, NotValid, Until}
-use Rattle.pool_values.specs.declared.report.Report.{Report}
-use Rattle.pool_values.specs.declared.report.Report.TheVariants as report
+use Rattle.model_values.specs.declared.report.Report.{Report}
+use Rattle.model_values.specs.declared.report.Report.TheVariants as report
 use Rattle.journal_words.specs.Ranges.{Fits16, Fits32, AddressFits, AltFits, ProofFits}
 use Rattle.journal_words.specs.Readers.{either_word, security, proto, address, list, name, field, number, octets, stream, origin, alt_of, proof_of}
 use Rattle.journal_words.specs.Words.{security_text, proto_text, list_text, fields_text, octets_text, origin_text, alt_words, proof_words}

@@ -7,11 +7,11 @@ use Rattle.net_base.specs.declared.response.Response.{Response}
 use Rattle.journal_words.specs.Writable.{is_word, are_named, are_names, is_writable_alt}
 use Rattle.partition_keys.specs.Sites.{IsSite}
 use Rattle.partition_keys.specs.declared.key.PartitionKey.{PartitionKey}
-use Rattle.pool_values.specs.declared.entry.Act.{Act}
-use Rattle.pool_values.specs.declared.entry.Act.TheVariants as act
-use Rattle.pool_values.specs.declared.entry.Entry.{Entry}
-use Rattle.pool_values.specs.declared.report.Report.{Report}
-use Rattle.pool_values.specs.declared.report.Report.TheVariants as report
+use Rattle.model_values.specs.declared.entry.Act.{Act}
+use Rattle.model_values.specs.declared.entry.Act.TheVariants as act
+use Rattle.model_values.specs.declared.entry.Entry.{Entry}
+use Rattle.model_values.specs.declared.report.Report.{Report}
+use Rattle.model_values.specs.declared.report.Report.TheVariants as report
 
 -- RFC 9110, section 9.1: a method is a token
 abbrev pub is_writable_request : Request → Bool

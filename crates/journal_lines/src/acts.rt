@@ -19,7 +19,7 @@ use net_base::{
     Addresses, ConnNo, EndCause, ExchangeNo, NoMem, Octets, Origin, StreamList, StreamNo, Target,
 };
 use partition_keys::{PartitionKey, write_site};
-use pool_values::{
+use model_values::{
     Act, CancelReply, ChangeReply, OrderMarks, PreconnectReply, Report, ResolvedReply, ShutReply,
     Submission, SubmitReply, Way,
 };

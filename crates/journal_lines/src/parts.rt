@@ -13,7 +13,7 @@ use journal_words::{
 };
 use net_base::{Identity, NoMem, Octets, Request, Response};
 use partition_keys::write_site;
-use pool_values::{OrderMark, Submission};
+use model_values::{OrderMark, Submission};
 use std::alloc::Global;
 
 /// METHOD ORIGIN PATH FIELDS BODY.

@@ -13,7 +13,7 @@ use journal_words::{
 };
 use net_base::{ExchangeNo, Moment, Octets, Request};
 use partition_keys::PartitionKey;
-use pool_values::{Act, Submission, SubmitReply};
+use model_values::{Act, Submission, SubmitReply};
 use std::alloc::Global;
 
 /// The number of an exchange.

@@ -15,7 +15,7 @@ use crate::read_works::{
 };
 use journal_words::{WordFault, parts, read_moment, read_u32};
 use net_base::CallerNo;
-use pool_values::{Act, Entry};
+use model_values::{Act, Entry};
 use std::alloc::Global;
 
 /// Reads the words of a line, which stands here without its LF. More lines than those that are written are read, so

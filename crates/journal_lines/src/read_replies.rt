@@ -5,7 +5,7 @@ ghost use Rattle.journal_lines.specs.LineReaders as spec;
 
 use journal_words::{WordFault, read_u32, read_u64};
 use net_base::ExchangeNo;
-use pool_values::{
+use model_values::{
     CancelReply, ChangeReply, PreconnectReply, ResolvedReply, ShutReply, SubmitReply,
 };
 use std::alloc::Global;

@@ -8,7 +8,7 @@ use journal_words::{
     read_origin, read_proof, read_proto, read_security, read_stream, read_u16, read_u32,
 };
 use net_base::{Identity, Response, StreamNo};
-use pool_values::Report;
+use model_values::Report;
 use std::alloc::Global;
 
 /// A report by its name.

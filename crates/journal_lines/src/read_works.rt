@@ -10,7 +10,7 @@ use journal_words::{
     WordFault, read_cause, read_stream, read_streams, read_target, read_u32, read_u64, read_way,
 };
 use net_base::ConnNo;
-use pool_values::{Act, OrderMark, OrderMarks};
+use model_values::{Act, OrderMark, OrderMarks};
 use std::alloc::Global;
 
 /// The number of a connection.

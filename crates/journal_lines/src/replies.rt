@@ -6,7 +6,7 @@ ghost use Rattle.journal_words.specs.Words.{spaced_words};
 
 use journal_words::{put, put_number};
 use net_base::{NoMem, Octets};
-use pool_values::{
+use model_values::{
     CancelReply, ChangeReply, PreconnectReply, ResolvedReply, ShutReply, SubmitReply,
 };
 use std::alloc::Global;

@@ -8,7 +8,7 @@ use crate::parts::{put_identity, put_response};
 use journal_words::{origin_text, put, put_alt, put_number, put_proof};
 use net_base::{NoMem, Octets, Origin, Response, StreamNo};
 use partition_keys::{AltUpdate, Proof};
-use pool_values::Report;
+use model_values::Report;
 use std::alloc::Global;
 
 /// The name of a report.

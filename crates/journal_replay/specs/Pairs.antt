@@ -1,9 +1,9 @@
 -- Pairs: a scenario, a line that is exactly `--`, and a journal. What a pair is judged to be, and why octets are refused.
 use Rattle.std.specs.Prelude.{◌≡◌, ◌⊎◌, ◌≤◌, ⊤, ℕ, ◌+◌, List, [], ◌∷◌, ◌++◌, length, codes}
 use Rattle.journal_text.specs.Journals.{IsJournal, IsBadLine, IsTruncated}
-use Rattle.pool_rules.specs.Histories.{IsHistory, IsFirstBad}
-use Rattle.pool_values.specs.declared.entry.Entry.{Entry}
-use Rattle.pool_values.specs.declared.config.Config.{Config}
+use Rattle.model_histories.specs.Histories.{IsHistory, IsFirstBad}
+use Rattle.model_values.specs.declared.entry.Entry.{Entry}
+use Rattle.model_values.specs.declared.config.Config.{Config}
 use Rattle.scenario_walk.specs.declared.fault.ScenarioFault.{ScenarioFault}
 use Rattle.scenario_text.specs.Scenarios.{IsScenario, IsNoScenario}
 use Rattle.scenario_text.specs.declared.scenario.Scenario.{Scenario}

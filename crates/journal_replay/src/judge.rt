@@ -9,7 +9,7 @@ use crate::verdict::{ReplayFault, Verdict};
 use journal_text::{JournalFault, read_journal};
 use net_base::NoMem;
 use pool_model::first_bad;
-use pool_values::{Config, History};
+use model_values::{Config, History};
 use scenario_text::{Scenario, ScenarioFault, read_scenario};
 use std::alloc::Global;
 

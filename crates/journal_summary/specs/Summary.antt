@@ -2,18 +2,18 @@
 -- this project's own.
 use Rattle.std.specs.Prelude.{ℕ, Bool, true, false, not, ◌&&◌, List, [], ◌∷◌, ◌++◌, codes, length, count_by, sum_by}
 use Rattle.std.specs.Fmt.{decimal}
-use Rattle.pool_ways.specs.Statuses.{has_ended}
-use Rattle.pool_rules.specs.Histories.{run}
-use Rattle.pool_values.specs.declared.config.Config.{Config}
-use Rattle.pool_values.specs.declared.entry.Act.{Act}
-use Rattle.pool_values.specs.declared.entry.Act.TheVariants as act
-use Rattle.pool_values.specs.declared.entry.Entry.{Entry}
-use Rattle.pool_values.specs.declared.outcome.Outcome.TheVariants as outcome
-use Rattle.pool_values.specs.declared.reply.PreconnectReply.TheVariants as preconnect
-use Rattle.pool_values.specs.declared.reply.SubmitReply.TheVariants as submit
-use Rattle.pool_values.specs.declared.state.Exchange.{Exchange}
-use Rattle.pool_values.specs.declared.state.Status.{Status}
-use Rattle.pool_values.specs.declared.state.Status.TheVariants as status
+use Rattle.model_authority.specs.Statuses.{has_ended}
+use Rattle.model_histories.specs.Histories.{run}
+use Rattle.model_values.specs.declared.config.Config.{Config}
+use Rattle.model_values.specs.declared.entry.Act.{Act}
+use Rattle.model_values.specs.declared.entry.Act.TheVariants as act
+use Rattle.model_values.specs.declared.entry.Entry.{Entry}
+use Rattle.model_values.specs.declared.outcome.Outcome.TheVariants as outcome
+use Rattle.model_values.specs.declared.reply.PreconnectReply.TheVariants as preconnect
+use Rattle.model_values.specs.declared.reply.SubmitReply.TheVariants as submit
+use Rattle.model_values.specs.declared.state.Exchange.{Exchange}
+use Rattle.model_values.specs.declared.state.Status.{Status}
+use Rattle.model_values.specs.declared.state.Status.TheVariants as status
 
 -- ---- what entries say
 

@@ -3,8 +3,8 @@ ghost use Rattle.std.specs.Prelude.{◌≡◌, ◌+◌, IfOk};
 ghost use Rattle.journal_summary.specs.Summary as spec;
 
 use net_base::NoMem;
-use pool_values::{Act, Entry, Exchange, Outcome, PreconnectReply, Status, SubmitReply};
-use pool_ways::statuses::has_ended;
+use model_values::{Act, Entry, Exchange, Outcome, PreconnectReply, Status, SubmitReply};
+use model_authority::statuses::has_ended;
 
 /// Whether the act is a submission that was accepted.
 fn is_accepted(act: &Act) -> bool

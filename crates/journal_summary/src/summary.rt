@@ -8,7 +8,7 @@ use crate::counts::{
 use journal_words::number_text;
 use net_base::{NoMem, Octets};
 use pool_model::state_of;
-use pool_values::{Config, Exchange, History};
+use model_values::{Config, Exchange, History};
 use std::alloc::Global;
 
 /// Writes the summary of the entries of a pool with these limits. `NoMem` too where a count passes 2^64 - 1, or where the

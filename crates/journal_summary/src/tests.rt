@@ -4,7 +4,7 @@ use super::*;
 use net_base::*;
 use partition_keys::*;
 use pool_model::first_bad;
-use pool_values::*;
+use model_values::*;
 use std::alloc::Global;
 use std::test::Fail;
 

@@ -2,7 +2,7 @@
 use Rattle.std.proofs.Common.{◌≡◌, ◌≢◌, sym, ap, ℕ, ◌+◌, ◌%◌, ◌^◌, ◌<◌, List, [], ◌∷◌, ◌++◌, length, get_or, codes, decimal, length-append, arith}
 use Rattle.std.proofs.lemmas.Fmt.{decimal_by_steps}
 use Rattle.std.proofs.lemmas.List.{get_or_append_left}
-use Rattle.pool_values.specs.declared.entry.Entry.{Entry}
+use Rattle.model_values.specs.declared.entry.Entry.{Entry}
 use Rattle.journal_words.specs.Words.{spaced_words}
 use Rattle.journal_lines.specs.Lines.{entry_line}
 use Rattle.journal_lines.specs.Ranges.{EntryFits}

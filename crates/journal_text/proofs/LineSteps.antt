@@ -1,7 +1,7 @@
 -- What is known of a line once its words are read.
 use Rattle.std.proofs.Common.{◌≡◌, ◌⊎◌, inl, inr, ℕ, List, [], ◌∷◌, ◌++◌, Bool, Result, Ok, Err, IfOk, IfErr, IsTrue, MatchResult, ◌↔◌, sym, subst, ◌∙◌}
 use Rattle.net_base.specs.declared.NoMem.{NoMem}
-use Rattle.pool_values.specs.declared.entry.Entry.{Entry}
+use Rattle.model_values.specs.declared.entry.Entry.{Entry}
 use Rattle.journal_words.specs.declared.faults.WordFault.{WordFault}
 use Rattle.journal_words.specs.declared.faults.WordFault.TheVariants as word
 use Rattle.journal_lines.specs.Lines.{entry_line}

@@ -3,7 +3,7 @@
 -- from 1.
 use Rattle.std.specs.Prelude.{◌≡◌, ◌≢◌, ◌⊎◌, ⊤, ℕ, ◌+◌, List, [], ◌∷◌, ◌++◌, length, All}
 use Rattle.std.specs.List.{flat_map}
-use Rattle.pool_values.specs.declared.entry.Entry.{Entry}
+use Rattle.model_values.specs.declared.entry.Entry.{Entry}
 use Rattle.journal_lines.specs.Lines.{entry_line}
 use Rattle.journal_lines.specs.Ranges.{EntryFits}
 use Rattle.journal_lines.specs.Writable.{IsWritable}

@@ -3,7 +3,7 @@
 use Rattle.std.specs.Prelude.{ℕ, List, [], ◌∷◌, ◌++◌, codes, length}
 use Rattle.std.specs.List.{flat_map}
 use Rattle.std.specs.Fmt.{decimal}
-use Rattle.pool_values.specs.declared.entry.Entry.{Entry}
+use Rattle.model_values.specs.declared.entry.Entry.{Entry}
 use Rattle.journal_lines.specs.Lines.{entry_line}
 
 -- the format's own line

@@ -12,7 +12,7 @@ use crate::writable::is_writable;
 use journal_lines::{read_words, write_entry};
 use journal_words::WordFault;
 use net_base::{NoMem, Octets, PlainValue};
-use pool_values::{Entry, History};
+use model_values::{Entry, History};
 use std::alloc::Global;
 
 /// A line without its LF, and what stands behind it.

@@ -1,7 +1,7 @@
 use super::*;
 use net_base::*;
 use partition_keys::*;
-use pool_values::*;
+use model_values::*;
 use std::alloc::Global;
 use std::test::Fail;
 

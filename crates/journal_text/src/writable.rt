@@ -12,7 +12,7 @@ use net_base::{Field, Fields, Names, NoMem, PlainValue, Request, Response, is_na
 use partition_keys::{
     AltUpdate, Alternative, Alternatives, PartitionKey, Site, SiteFault, read_site, write_site,
 };
-use pool_values::{Act, Entry, Report};
+use model_values::{Act, Entry, Report};
 use std::alloc::Global;
 
 /// Whether the entry has a line that is read back as it.

@@ -31,8 +31,8 @@ use Rattle.partition_keys.specs.declared.alternative.Why.TheVariants.{Status, Me
 use Rattle.partition_keys.specs.declared.site.Site.{Site}
 use Rattle.partition_keys.specs.declared.site.Site.TheVariants.{Tuple, Opaque}
 use Rattle.partition_keys.specs.Sites.{IsSite, site_text}
-use Rattle.pool_values.specs.declared.entry.Way.{Way}
-use Rattle.pool_values.specs.declared.entry.Way.TheVariants as way
+use Rattle.model_values.specs.declared.entry.Way.{Way}
+use Rattle.model_values.specs.declared.entry.Way.TheVariants as way
 use Rattle.journal_words.specs.Ranges.{Fits16, Fits32, FieldFits, AddressFits, DeadlineFits, AlternativeFits, AltFits, ProofFits, CauseFits}
 use Rattle.journal_words.specs.Words.{octets_text, deadline_text, credentials_text, security_text, persist_text, proto_text, way_text, via_text, condition_text, field_text, fields_text, addresses_text, streams_text, list_text, host_and_port, origin_text, target_words, alternative_text, alt_words, proof_words, cause_text}
 use Rattle.journal_words.specs.Writable.{are_named, are_names, is_word, is_writable_alternative, is_writable_alt}

@@ -40,8 +40,8 @@ use Rattle.partition_keys.specs.declared.site.Site.{Site}
 use Rattle.partition_keys.specs.declared.site.Site.TheVariants.{Tuple, Opaque}
 use Rattle.partition_keys.specs.Sites.{IsSite, site_text, site_of}
 use Rattle.partition_keys.proofs.SiteLemmas.{computes}
-use Rattle.pool_values.specs.declared.entry.Way.{Way}
-use Rattle.pool_values.specs.declared.entry.Way.TheVariants as way
+use Rattle.model_values.specs.declared.entry.Way.{Way}
+use Rattle.model_values.specs.declared.entry.Way.TheVariants as way
 use Rattle.journal_words.specs.Ranges.{Fits16, Fits32, Fits64, FieldFits, AddressFits, DeadlineFits, AlternativeFits, AltFits, ProofFits, CauseFits}
 use Rattle.journal_words.specs.Readers.{number, number_if, moment, stream, decoded, hex, octets, address, deadline, unreadable, credentials, security, persist, proto, way_of, via_of, condition, field, field_of, name, list, key, key_in, place, place_at, origin, origin_at, target, alternative, alternative_of, alt_of, proof_of, cause, cause_of, parts, last_place}
 use Rattle.journal_words.specs.Words.{octets_text, deadline_text, credentials_text, security_text, persist_text, proto_text, way_text, via_text, condition_text, field_text, fields_text, addresses_text, streams_text, list_text, host_and_port, origin_text, target_words, alternative_text, alt_words, proof_words, cause_text}

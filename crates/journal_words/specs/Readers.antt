@@ -31,8 +31,8 @@ use Rattle.partition_keys.specs.declared.alternative.Why.{Why}
 use Rattle.partition_keys.specs.declared.alternative.Why.TheVariants.{Status, Media, NotJson, NotArray, Absent, Stale}
 use Rattle.partition_keys.specs.declared.key.PartitionKey.{PartitionKey}
 use Rattle.partition_keys.specs.declared.site.Site.{Site}
-use Rattle.pool_values.specs.declared.entry.Way.{Way}
-use Rattle.pool_values.specs.declared.entry.Way.TheVariants as way
+use Rattle.model_values.specs.declared.entry.Way.{Way}
+use Rattle.model_values.specs.declared.entry.Way.TheVariants as way
 use Rattle.journal_words.specs.declared.faults.WordFault.{WordFault}
 use Rattle.journal_words.specs.declared.faults.WordFault.TheVariants.{NoMem, Unreadable}
 

@@ -24,8 +24,8 @@ use Rattle.partition_keys.specs.declared.alternative.Proof.{Proof}
 use Rattle.partition_keys.specs.declared.alternative.Proof.TheVariants.{NotAsked, NotValid, Until}
 use Rattle.partition_keys.specs.declared.alternative.Why.{Why}
 use Rattle.partition_keys.specs.declared.alternative.Why.TheVariants.{Status, Media, NotJson, NotArray, Absent, Stale}
-use Rattle.pool_values.specs.declared.entry.Way.{Way}
-use Rattle.pool_values.specs.declared.entry.Way.TheVariants as way
+use Rattle.model_values.specs.declared.entry.Way.{Way}
+use Rattle.model_values.specs.declared.entry.Way.TheVariants as way
 
 -- ---- octets and lists
 

@@ -15,7 +15,7 @@ use net_base::{
 use partition_keys::{
     AltUpdate, Alternative, Alternatives, PartitionKey, Proof, SiteFault, Why, read_site,
 };
-use pool_values::Way;
+use model_values::Way;
 use std::alloc::{AllocError, Global};
 
 /// How a word is read.

@@ -9,7 +9,7 @@ use net_base::{
     StreamList, StreamNo, Via,
 };
 use partition_keys::{Alternative, Alternatives, Why};
-use pool_values::Way;
+use model_values::Way;
 use std::alloc::Global;
 
 /// A number in decimal.

@@ -10,25 +10,25 @@ use Rattle.net_base.specs.declared.numbers.ConnNo.{ConnNo}
 use Rattle.net_base.specs.declared.numbers.ExchangeNo.{ExchangeNo}
 use Rattle.net_base.specs.declared.numbers.Moment.{Moment}
 use Rattle.judged_port.specs.Judged.{JudgedView, port_of, Settles, Follows, LeavesFirst, IsRest}
-use Rattle.pool_rules.specs.Histories.{IsHistory, run}
-use Rattle.pool_rules.specs.Looks.{IsLook, IsLateAt, IsNothingOrdered, NoneWanted}
-use Rattle.pool_rules.specs.Port.{PortView, LeavesNone, IsLookAt, IsSeekAt, IsOrdersAt}
-use Rattle.pool_rules.specs.Reading.{order_of}
-use Rattle.pool_rules.specs.Replies.{dial_of, waits_for_dial}
-use Rattle.pool_settling.proofs.LowestLemmas.{lowest_none}
-use Rattle.pool_ways.proofs.NumberLemmas.{and_value}
-use Rattle.pool_ways.specs.Lists.{numbered}
-use Rattle.pool_values.specs.declared.entry.Act.{Act}
-use Rattle.pool_values.specs.declared.entry.Act.TheVariants.{Tick, Orders}
-use Rattle.pool_values.specs.declared.entry.Entry.{Entry}
-use Rattle.pool_values.specs.declared.order.Order.{Order}
-use Rattle.pool_values.specs.declared.order.OrderMark.{OrderMark}
-use Rattle.pool_values.specs.declared.reply.Look.{Look}
-use Rattle.pool_values.specs.declared.reply.OrdersReply.TheVariants as orders
-use Rattle.pool_values.specs.declared.reply.Seek.{Seek}
-use Rattle.pool_values.specs.declared.reply.Seek.TheVariants as seek
-use Rattle.pool_values.specs.declared.state.AbstractPool.{AbstractPool}
-use Rattle.pool_values.specs.declared.state.Connection.{Connection}
+use Rattle.model_histories.specs.Histories.{IsHistory, run}
+use Rattle.model_histories.specs.Looks.{IsLook, IsLateAt, IsNothingOrdered, NoneWanted}
+use Rattle.model_histories.specs.Port.{PortView, LeavesNone, IsLookAt, IsSeekAt, IsOrdersAt}
+use Rattle.model_histories.specs.Reading.{order_of}
+use Rattle.model_histories.specs.Replies.{dial_of, waits_for_dial}
+use Rattle.model_settling.proofs.LowestLemmas.{lowest_none}
+use Rattle.model_authority.proofs.NumberLemmas.{and_value}
+use Rattle.model_authority.specs.Lists.{numbered}
+use Rattle.model_values.specs.declared.entry.Act.{Act}
+use Rattle.model_values.specs.declared.entry.Act.TheVariants.{Tick, Orders}
+use Rattle.model_values.specs.declared.entry.Entry.{Entry}
+use Rattle.model_values.specs.declared.order.Order.{Order}
+use Rattle.model_values.specs.declared.order.OrderMark.{OrderMark}
+use Rattle.model_values.specs.declared.reply.Look.{Look}
+use Rattle.model_values.specs.declared.reply.OrdersReply.TheVariants as orders
+use Rattle.model_values.specs.declared.reply.Seek.{Seek}
+use Rattle.model_values.specs.declared.reply.Seek.TheVariants as seek
+use Rattle.model_values.specs.declared.state.AbstractPool.{AbstractPool}
+use Rattle.model_values.specs.declared.state.Connection.{Connection}
 
 -- ---- what the pool does by itself
 

@@ -2,15 +2,15 @@
 use Rattle.std.specs.Prelude.{◌≡◌, ◌≢◌, List, [], ◌∷◌, ◌++◌, ◌==◌, ◌||◌, Option, Some, None, All}
 use Rattle.net_base.specs.declared.numbers.CallerNo.{CallerNo}
 use Rattle.net_base.specs.declared.numbers.Moment.{Moment}
-use Rattle.pool_rules.specs.Histories.{IsHistory}
-use Rattle.pool_rules.specs.Looks.{IsStop, IsNothingWanted}
-use Rattle.pool_rules.specs.Port.{PortView, Leaves}
-use Rattle.pool_values.specs.declared.config.Config.{Config}
-use Rattle.pool_values.specs.declared.entry.Act.{Act}
-use Rattle.pool_values.specs.declared.entry.Entry.{Entry}
-use Rattle.pool_values.specs.declared.reply.Seek.{Seek}
-use Rattle.pool_values.specs.declared.reply.Seek.TheVariants as seek
-use Rattle.pool_values.specs.declared.state.AbstractPool.{AbstractPool}
+use Rattle.model_histories.specs.Histories.{IsHistory}
+use Rattle.model_histories.specs.Looks.{IsStop, IsNothingWanted}
+use Rattle.model_histories.specs.Port.{PortView, Leaves}
+use Rattle.model_values.specs.declared.config.Config.{Config}
+use Rattle.model_values.specs.declared.entry.Act.{Act}
+use Rattle.model_values.specs.declared.entry.Entry.{Entry}
+use Rattle.model_values.specs.declared.reply.Seek.{Seek}
+use Rattle.model_values.specs.declared.reply.Seek.TheVariants as seek
+use Rattle.model_values.specs.declared.state.AbstractPool.{AbstractPool}
 
 -- what the port keeps: the pool's limits, its one caller, and the history
 pub record JudgedView : Type 0 where

@@ -1,13 +1,13 @@
 // What the port's caller may say as a worker, told by the state.
 ghost use Rattle.std.specs.Prelude.{◌↔◌, IsTrue, IfOk};
 ghost use Rattle.judged_port.specs.Judged.{port_of};
-ghost use Rattle.pool_rules.specs.Port.{IsEndedOf, IsReportedOf, IsWorked};
+ghost use Rattle.model_histories.specs.Port.{IsEndedOf, IsReportedOf, IsWorked};
 
 use crate::port::JudgedPort;
 use net_base::{ConnNo, EndCause, NoMem};
-use pool_rules::laws::{ends_as_state_says, reports_as_state_says, works_as_state_says};
-use pool_rules::legal::{may_end, may_tell, may_work};
-use pool_values::Report;
+use model_histories::laws::{ends_as_state_says, reports_as_state_says, works_as_state_says};
+use model_histories::legal::{may_end, may_tell, may_work};
+use model_values::Report;
 use std::alloc::Global;
 
 impl JudgedPort {

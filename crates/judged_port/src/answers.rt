@@ -1,14 +1,14 @@
 // The answers that no entry carries, and what a dial asks for.
 ghost use Rattle.std.specs.Prelude.{◌≡◌, ◌↔◌, None, All, IsTrue, IfOk};
 ghost use Rattle.judged_port.specs.Judged.{IsRest};
-ghost use Rattle.pool_rules.specs.Looks.{IsLook};
-ghost use Rattle.pool_rules.specs.Reading.{calls_of, is_about};
-ghost use Rattle.pool_rules.specs.Replies.{dial_of};
+ghost use Rattle.model_histories.specs.Looks.{IsLook};
+ghost use Rattle.model_histories.specs.Reading.{calls_of, is_about};
+ghost use Rattle.model_histories.specs.Replies.{dial_of};
 
 use net_base::{CallerNo, ConnNo, ExchangeNo, NoMem, PlainValue, Target};
-use pool_rules::replies::own_exchange;
-use pool_values::{AbstractPool, Act, Entry, Look, Seek, Status};
-use pool_ways::lists::numbered;
+use model_histories::replies::own_exchange;
+use model_values::{AbstractPool, Act, Entry, Look, Seek, Status};
+use model_authority::lists::numbered;
 use std::alloc::Global;
 
 /// What a caller sees of an exchange.

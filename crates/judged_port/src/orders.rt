@@ -3,11 +3,11 @@ ghost use Rattle.std.specs.Prelude.{◌≡◌, ◌++◌, IfOk, OnOk, slice_get};
 ghost use Rattle.std.specs.List.{flat_map};
 ghost use Rattle.std.specs.Option.{option_copied};
 ghost use Rattle.judged_port.specs.Judged.{one_of};
-ghost use Rattle.pool_rules.specs.Reading.{accepted_by, dialed_by, order_of, start_of, submissions_of, targets_of};
-ghost use Rattle.pool_ways.specs.Lists as lists;
+ghost use Rattle.model_histories.specs.Reading.{accepted_by, dialed_by, order_of, start_of, submissions_of, targets_of};
+ghost use Rattle.model_authority.specs.Lists as lists;
 
 use net_base::{ConnNo, ExchangeNo, NoMem, StreamNo, Target, dressed};
-use pool_values::{Act, Entry, Order, OrderMark, Orders, Submission, SubmitReply};
+use model_values::{Act, Entry, Order, OrderMark, Orders, Submission, SubmitReply};
 use std::alloc::Global;
 
 /// The submission that the act accepts.

@@ -1,11 +1,11 @@
 // The port of a pool that keeps nothing but its history.
 ghost use Rattle.std.specs.Prelude.{◌≡◌, ◌≢◌, ◌↔◌, ◌≤◌, [], IsTrue, IfOk, OnOk, MatchResult, length};
 ghost use Rattle.judged_port.specs.Judged.{LeavesFirst, port_of};
-ghost use Rattle.pool_rules.specs.Histories.{IsHistory, run};
-ghost use Rattle.pool_rules.specs.Looks.{IsLateAt};
-ghost use Rattle.pool_rules.specs.Port.{IsLookAt, IsOrdersAt, IsSeekAt, Leaves, LeavesNone};
-ghost use Rattle.pool_steps.specs.After as after;
-ghost use Rattle.pool_values.specs.declared.entry.Act.TheVariants as act;
+ghost use Rattle.model_histories.specs.Histories.{IsHistory, run};
+ghost use Rattle.model_histories.specs.Looks.{IsLateAt};
+ghost use Rattle.model_histories.specs.Port.{IsLookAt, IsOrdersAt, IsSeekAt, Leaves, LeavesNone};
+ghost use Rattle.model_steps.specs.After as after;
+ghost use Rattle.model_values.specs.declared.entry.Act.TheVariants as act;
 
 use crate::answers::{is_new_to, look_at, rest_of, target_of};
 use crate::longer::{followed, judged};
@@ -19,15 +19,15 @@ use net_base::{
 };
 use partition_keys::PartitionKey;
 use pool_model::{has_room_for_more, state_of};
-use pool_rules::PoolPort;
-use pool_rules::legal::{is_late, next_dial};
-use pool_steps::calls::note;
-use pool_values::{
+use model_histories::PoolPort;
+use model_histories::legal::{is_late, next_dial};
+use model_steps::calls::note;
+use model_values::{
     AbstractPool, Act, CancelReply, ChangeReply, Config, ConnTicket, Entry, History, Look,
     OrderMarks, OrdersReply, PreconnectReply, Report, ResolvedReply, Seek, ShutReply, Submission,
     SubmitReply, TicketKept,
 };
-use pool_ways::lists::numbered;
+use model_authority::lists::numbered;
 use std::alloc::Global;
 use std::marker::Model;
 
@@ -81,7 +81,7 @@ impl JudgedPort {
     }
 
     /// The state with a moment counted.
-    #[tactic(auto, unfolding(pool_steps::specs::After::noted))]
+    #[tactic(auto, unfolding(model_steps::specs::After::noted))]
     fn state_at(&self, alloc: Global, moment: Moment) -> Result<AbstractPool, NoMem>
         ensures state { IfOk result (λ s. s ≡ after.noted (run self.now.config self.now.seen) moment) }
         ensures few { IfOk result (λ s. length s.connections ≤ 4294967294) }

@@ -1,19 +1,19 @@
 // The one reply that a state gives to each call.
 ghost use Rattle.std.specs.Prelude.{◌≡◌, ◌<◌, ◌^◌, length};
-ghost use Rattle.pool_rules.specs.Replies as spec;
-ghost use Rattle.pool_ways.specs.Ways as ways;
+ghost use Rattle.model_histories.specs.Replies as spec;
+ghost use Rattle.model_authority.specs.Ways as ways;
 
 use net_base::{Addresses, CallerNo, ExchangeNo, Origin};
 use partition_keys::PartitionKey;
-use pool_rules::replies::{is_bad_probe, own_exchange};
-use pool_settling::counts::{count_in_group, count_total};
-use pool_settling::room::planned;
-use pool_steps::calls::group_parts_for;
-use pool_values::{
+use model_histories::replies::{is_bad_probe, own_exchange};
+use model_settling::counts::{count_in_group, count_total};
+use model_settling::room::planned;
+use model_steps::calls::group_parts_for;
+use model_values::{
     AbstractPool, CancelReply, ChangeReply, PreconnectReply, ResolvedReply, ShutReply, Submission,
     SubmitReply,
 };
-use pool_ways::statuses::has_ended;
+use model_authority::statuses::has_ended;
 
 /// The reply to a submission.
 pub(crate) fn submit_reply(s: &AbstractPool, ask: &Submission) -> SubmitReply {

@@ -1,15 +1,15 @@
 // The first place that keeps a list of entries from being a history.
 ghost use Rattle.std.specs.Prelude.{◌≡◌, ◌↔◌, ◌≤◌, ◌<◌, ◌+◌, ◌^◌, IsTrue, IfOk, MatchOption, length};
 ghost use Rattle.std.specs.Bool.{OnTrue};
-ghost use Rattle.pool_steps.specs.After as after;
-ghost use Rattle.pool_rules.specs.Histories as spec;
-ghost use Rattle.pool_settling.specs.Settling.{IsSettled};
+ghost use Rattle.model_steps.specs.After as after;
+ghost use Rattle.model_histories.specs.Histories as spec;
+ghost use Rattle.model_settling.specs.Settling.{IsSettled};
 
 use net_base::{Moment, NoMem};
-use pool_rules::legal::noted;
-use pool_settling::settle::is_settled;
-use pool_steps::after::after_act;
-use pool_values::{AbstractPool, Config, Entry, History, Rows};
+use model_histories::legal::noted;
+use model_settling::settle::is_settled;
+use model_steps::after::after_act;
+use model_values::{AbstractPool, Config, Entry, History, Rows};
 use std::alloc::Global;
 
 /// The pool before its first entry.
@@ -37,7 +37,7 @@ pub fn has_room_for_more(s: &AbstractPool) -> bool
 }
 
 /// Whether the entry may stand here. Where it may, the state becomes the one that it leaves.
-#[tactic(auto, unfolding(pool_steps::specs::After::after))]
+#[tactic(auto, unfolding(model_steps::specs::After::after))]
 fn step(alloc: Global, s: &mut AbstractPool, e: &Entry) -> Result<bool, NoMem>
     ensures stands { IfOk result (λ b. IsTrue b ↔ spec.MayStand s.old e.now) }
     ensures state { IfOk result (λ b. OnTrue b (s.new ≡ after.after s.old e.now)) }

@@ -10,9 +10,9 @@ mod judge;
 mod state;
 
 pub use judge::{first_bad, has_room_for_more, open_pool};
-pub use pool_rules::PoolPort;
-pub use pool_settling::due::Due;
-pub use pool_values::{
+pub use model_histories::PoolPort;
+pub use model_settling::due::Due;
+pub use model_values::{
     AbstractPool, Act, AltRow, CancelReply, ChangeReply, Config, ConnTicket, Connection, Entry,
     Exchange, History, HostRow, Look, Order, OrderMark, OrderMarks, Orders, OrdersReply, Origins,
     Outcome, Phase, PreconnectReply, ProtoRow, Report, ResolvedReply, Rows, ScriptCall,

@@ -1,18 +1,18 @@
 // The state that entries leave.
 ghost use Rattle.std.specs.Prelude.{◌≡◌, IfOk, OnOk};
-ghost use Rattle.pool_rules.specs.Histories.{run};
-ghost use Rattle.pool_steps.specs.After as after;
+ghost use Rattle.model_histories.specs.Histories.{run};
+ghost use Rattle.model_steps.specs.After as after;
 
 use crate::judge::{has_room_for_more, open_pool};
 use net_base::NoMem;
-use pool_steps::after::after_act;
-use pool_steps::calls::note;
-use pool_values::{AbstractPool, Config, Entry};
+use model_steps::after::after_act;
+use model_steps::calls::note;
+use model_values::{AbstractPool, Config, Entry};
 use std::alloc::Global;
 
 /// The state becomes the one that the entry leaves. `NoMem` where there is no memory, or where the entries or the connections
 /// are more than their numbers.
-#[tactic(auto, unfolding(pool_steps::specs::After::after))]
+#[tactic(auto, unfolding(model_steps::specs::After::after))]
 pub fn go_on(alloc: Global, s: &mut AbstractPool, e: &Entry) -> Result<(), NoMem>
     ensures { OnOk result (s.new ≡ after.after s.old e.now) }
 {

@@ -12,15 +12,15 @@ use Rattle.net_base.specs.declared.target.Target.{Target}
 use Rattle.net_base.specs.declared.target.Via.TheVariants as via
 use Rattle.partition_keys.specs.declared.alternative.AltUpdate.TheVariants as alt
 use Rattle.partition_keys.specs.declared.alternative.Proof.TheVariants.{NotAsked}
-use Rattle.pool_values.specs.declared.entry.Act.{Act}
-use Rattle.pool_values.specs.declared.entry.Act.TheVariants as act
-use Rattle.pool_values.specs.declared.entry.Entry.{Entry}
-use Rattle.pool_values.specs.declared.entry.Way.TheVariants as way
-use Rattle.pool_values.specs.declared.order.OrderMark.TheVariants as mark
-use Rattle.pool_values.specs.declared.reply.ShutReply.TheVariants.{Noted}
-use Rattle.pool_values.specs.declared.reply.SubmitReply.TheVariants.{Accepted}
-use Rattle.pool_values.specs.declared.report.Report.TheVariants as report
-use Rattle.pool_values.specs.declared.submission.Submission.{Submission}
+use Rattle.model_values.specs.declared.entry.Act.{Act}
+use Rattle.model_values.specs.declared.entry.Act.TheVariants as act
+use Rattle.model_values.specs.declared.entry.Entry.{Entry}
+use Rattle.model_values.specs.declared.entry.Way.TheVariants as way
+use Rattle.model_values.specs.declared.order.OrderMark.TheVariants as mark
+use Rattle.model_values.specs.declared.reply.ShutReply.TheVariants.{Noted}
+use Rattle.model_values.specs.declared.reply.SubmitReply.TheVariants.{Accepted}
+use Rattle.model_values.specs.declared.report.Report.TheVariants as report
+use Rattle.model_values.specs.declared.submission.Submission.{Submission}
 use Rattle.scenario_text.specs.Calls.{default_key}
 use Rattle.scenario_text.specs.Scenarios.{default_config}
 use Rattle.journal_text.specs.Lines.{journal_text}

@@ -4,7 +4,7 @@ ghost use Rattle.scenario_walk.specs.declared.fault.ScenarioFault.TheVariants as
 ghost use Rattle.pool_run.specs.Check as spec;
 
 use net_base::{NoMem, Octets};
-use pool_values::ScriptCalls;
+use model_values::ScriptCalls;
 use scenario_text::{Scenario, ScenarioFault};
 use std::alloc::Global;
 

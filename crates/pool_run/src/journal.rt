@@ -13,7 +13,7 @@ use net_base::{
     Response, Scheme, StreamList, StreamNo,
 };
 use partition_keys::{AltUpdate, PartitionKey, Proof, Site};
-use pool_values::{
+use model_values::{
     Act, Config, Entry, History, OrderMark, OrderMarks, Report, ShutReply, Submission, SubmitReply,
     Way,
 };

@@ -5,7 +5,7 @@ use Rattle.std.proofs.lemmas.List.Sums.{sum_by_push}
 use Rattle.serde_json.specs.Data.{Data}
 use Rattle.serde_json.specs.View.{view}
 use Rattle.serde_json.specs.declared.value.Value.{Value}
-use Rattle.pool_values.specs.declared.script.ScriptCall.{ScriptCall}
+use Rattle.model_values.specs.declared.script.ScriptCall.{ScriptCall}
 use Rattle.scenario_text.specs.Calls.{call_behind, count_submits, is_submit, script_call}
 use Rattle.scenario_walk.specs.Faults.{below}
 use Rattle.scenario_walk.specs.declared.fault.ScenarioFault.{ScenarioFault}

@@ -9,9 +9,9 @@ use Rattle.net_base.specs.declared.request.BuildFault.{BuildFault}
 use Rattle.net_base.specs.declared.request.Request.{Request}
 use Rattle.partition_keys.specs.declared.key.PartitionKey.{PartitionKey}
 use Rattle.partition_keys.specs.declared.site.Site.TheVariants.{Tuple}
-use Rattle.pool_values.specs.declared.script.ScriptCall.{ScriptCall}
-use Rattle.pool_values.specs.declared.script.ScriptCall.TheVariants as call
-use Rattle.pool_values.specs.declared.submission.Submission.{Submission}
+use Rattle.model_values.specs.declared.script.ScriptCall.{ScriptCall}
+use Rattle.model_values.specs.declared.script.ScriptCall.TheVariants as call
+use Rattle.model_values.specs.declared.submission.Submission.{Submission}
 use Rattle.scenario_walk.specs.Faults.{Reader, bad, an_object, only, required, optional, list, any_list, list_behind}
 use Rattle.scenario_walk.specs.Values.{flag, text, text_within, whole, some, word, host, address, site, key_of, moment_or_none, field}
 use Rattle.scenario_text.specs.declared.calls.CallWord.{CallWord}

@@ -7,9 +7,9 @@ use Rattle.net_base.specs.declared.peer.Answer.{Answer}
 use Rattle.net_base.specs.declared.peer.AnswerBody.{AnswerBody}
 use Rattle.net_base.specs.declared.peer.AnswerBody.TheVariants.{Text, Size}
 use Rattle.net_base.specs.declared.peer.Peer.{Peer}
-use Rattle.pool_values.specs.declared.config.Config.{Config}
-use Rattle.pool_values.specs.declared.script.ScriptCall.{ScriptCall}
-use Rattle.pool_values.specs.declared.script.ScriptCall.TheVariants.{Submit, Cancel, Reprioritise, Preconnect, Resolved, NetworkChanged, Wait, Until}
+use Rattle.model_values.specs.declared.config.Config.{Config}
+use Rattle.model_values.specs.declared.script.ScriptCall.{ScriptCall}
+use Rattle.model_values.specs.declared.script.ScriptCall.TheVariants.{Submit, Cancel, Reprioritise, Preconnect, Resolved, NetworkChanged, Wait, Until}
 use Rattle.scenario_text.specs.Calls.{channel}
 use Rattle.scenario_walk.specs.Faults.{Reader, only, required, optional, list}
 use Rattle.scenario_walk.specs.Json.{IsJson, IsNoJson}

@@ -9,7 +9,7 @@ use crate::calls::ChannelObject;
 use crate::peers::PeerObject;
 use edge_traits::NetKind;
 use net_base::{Answer, AnswerBody, NoMem, Octets, Peer, PeerBook};
-use pool_values::{Config, ScriptCall, ScriptCalls, Scripts};
+use model_values::{Config, ScriptCall, ScriptCalls, Scripts};
 use scenario_walk::{
     At, ListOf, NetWord, Reads, ScenarioFault, Whole, only, optional, required, too_many,
 };

@@ -8,7 +8,7 @@ ghost use Rattle.scenario_walk.specs.Values.{text};
 
 use net_base::{BuildFault, Fields, Moment, NoMem, Octets, Request, Scheme};
 use partition_keys::PartitionKey;
-use pool_values::Submission;
+use model_values::Submission;
 use scenario_walk::{
     AnyListOf, At, Flag, Given, MomentOrNone, PlainField, ScenarioFault, Site, Text, TextWithin,
     Whole, bad, below, optional, text_of,

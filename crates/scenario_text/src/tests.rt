@@ -1,6 +1,6 @@
 use super::*;
 use net_base::{AnswerBody, Octets, Proto};
-use pool_values::ScriptCall;
+use model_values::ScriptCall;
 use std::alloc::Global;
 use std::test::Fail;
 

@@ -2,7 +2,7 @@
 // An answer that isn't the wanted one is told as want of memory.
 ghost use Rattle.std.specs.Prelude.{IsTrue};
 ghost use Rattle.judged_port.specs.Judged.{port_of};
-ghost use Rattle.pool_rules.specs.Port.{IsEndedOf};
+ghost use Rattle.model_histories.specs.Port.{IsEndedOf};
 
 use super::*;
 

@@ -1,6 +1,6 @@
 use Rattle.std.proofs.Common.{◌∙◌, ◌++◌, ap, List, ℕ, take_all}
 use Rattle.std.specs.List.{flat_map}
-use Rattle.pool_values.specs.declared.order.OrderMark.{OrderMark}
+use Rattle.model_values.specs.declared.order.OrderMark.{OrderMark}
 use Rattle.journal_lines.specs.Lines.{order_words}
 use Rattle.journal_words.specs.Words.{spaced_words}
 use Rattle.journal_lines.proofs.LineLemmas.{spaced_each}

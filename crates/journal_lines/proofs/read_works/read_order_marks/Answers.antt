@@ -1,7 +1,7 @@
 use Rattle.std.proofs.Common.{◌+◌, ℕ, List, map, sym, subst, arith}
 use Rattle.std.specs.Borrow.{Bor}
 use Rattle.std.proofs.lemmas.List.{length-map}
-use Rattle.pool_values.specs.declared.order.OrderMark.{OrderMark}
+use Rattle.model_values.specs.declared.order.OrderMark.{OrderMark}
 use Rattle.journal_lines.proofs.OrderLoop.{IsReadTo, read_more, stop_or}
 use Rattle.journal_lines.proofs.read_works.read_order_marks.Goals as goal
 

@@ -1,5 +1,5 @@
 use Rattle.std.proofs.Common.{IfOk, IsTrue, ◌↔◌, sym, subst}
-use Rattle.pool_values.specs.declared.entry.Act.{Act}
+use Rattle.model_values.specs.declared.entry.Act.{Act}
 use Rattle.journal_lines.specs.Writable.{HasWritableKey}
 use Rattle.journal_text.proofs.writable.has_writable_key.Goals as goal
 

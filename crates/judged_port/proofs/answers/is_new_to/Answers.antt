@@ -5,8 +5,8 @@ use Rattle.std.proofs.lemmas.List.Elements.{All-nil, All-cons, All-append, filte
 use Rattle.std.proofs.lemmas.Bool.{cond_both}
 use Rattle.net_base.specs.declared.numbers.CallerNo.{CallerNo}
 use Rattle.net_base.specs.declared.numbers.ConnNo.{ConnNo}
-use Rattle.pool_rules.specs.Reading.{calls_of, is_about}
-use Rattle.pool_values.specs.declared.entry.Entry.{Entry}
+use Rattle.model_histories.specs.Reading.{calls_of, is_about}
+use Rattle.model_values.specs.declared.entry.Entry.{Entry}
 use Rattle.judged_port.proofs.answers.is_new_to.Goals as goal
 
 abbrev IsOther : ConnNo → Entry → Type 0

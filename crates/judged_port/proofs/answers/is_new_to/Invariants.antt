@@ -1,7 +1,7 @@
 use Rattle.std.proofs.Common.{IsTrue, take}
 use Rattle.std.specs.Prelude.{All}
-use Rattle.pool_rules.specs.Reading.{calls_of, is_about}
-use Rattle.pool_values.specs.declared.entry.Entry.{Entry}
+use Rattle.model_histories.specs.Reading.{calls_of, is_about}
+use Rattle.model_values.specs.declared.entry.Entry.{Entry}
 use Rattle.judged_port.proofs.answers.is_new_to.Given as goal
 
 abbrev pub invariant-loop-e : goal.invariant-loop-e

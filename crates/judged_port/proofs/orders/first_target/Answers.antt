@@ -3,8 +3,8 @@ use Rattle.std.proofs.Math.Seq.{drop-cons}
 use Rattle.std.proofs.lemmas.List.{drop_all}
 use Rattle.net_base.specs.declared.numbers.ConnNo.{ConnNo}
 use Rattle.net_base.specs.declared.target.Target.{Target}
-use Rattle.pool_rules.specs.Reading.{dialed_by, targets_of}
-use Rattle.pool_values.specs.declared.entry.Entry.{Entry}
+use Rattle.model_histories.specs.Reading.{dialed_by, targets_of}
+use Rattle.model_values.specs.declared.entry.Entry.{Entry}
 use Rattle.judged_port.proofs.orders.first_target.Goals as goal
 
 -- the entry at this place stands before those behind it

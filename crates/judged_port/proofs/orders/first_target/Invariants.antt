@@ -1,5 +1,5 @@
 use Rattle.std.proofs.Common.{◌≡◌, drop, slice_get}
-use Rattle.pool_rules.specs.Reading.{targets_of}
+use Rattle.model_histories.specs.Reading.{targets_of}
 use Rattle.judged_port.proofs.orders.first_target.Given as goal
 
 abbrev pub invariant-loop-e : goal.invariant-loop-e

@@ -2,11 +2,11 @@ use Rattle.std.proofs.Common.{◌≡◌, ◌<◌, ◌≤◌, ◌+◌, ◌++◌, 
 use Rattle.std.specs.List.{flat_map}
 use Rattle.std.proofs.lemmas.Grind.{flat_map-append}
 use Rattle.std.proofs.lemmas.List.{append-nil, take_all, take_more}
-use Rattle.pool_rules.specs.Reading.{order_of}
+use Rattle.model_histories.specs.Reading.{order_of}
 use Rattle.net_base.specs.declared.numbers.ConnNo.{ConnNo}
-use Rattle.pool_values.specs.declared.entry.Entry.{Entry}
-use Rattle.pool_values.specs.declared.order.Order.{Order}
-use Rattle.pool_values.specs.declared.order.OrderMark.{OrderMark}
+use Rattle.model_values.specs.declared.entry.Entry.{Entry}
+use Rattle.model_values.specs.declared.order.Order.{Order}
+use Rattle.model_values.specs.declared.order.OrderMark.{OrderMark}
 use Rattle.judged_port.proofs.orders.orders_by.Goals as goal
 
 -- the orders of one more mark

@@ -1,6 +1,6 @@
 use Rattle.std.proofs.Common.{◌≡◌, take}
 use Rattle.std.specs.List.{flat_map}
-use Rattle.pool_rules.specs.Reading.{order_of}
+use Rattle.model_histories.specs.Reading.{order_of}
 use Rattle.judged_port.proofs.orders.orders_by.Given as goal
 
 abbrev pub invariant-loop-mark : goal.invariant-loop-mark

@@ -1,11 +1,11 @@
 use Rattle.std.proofs.Common.{◌≡◌, ◌≢◌, ◌<◌, ◌≤◌, ◌+◌, ◌-◌, ◌++◌, ◌∷◌, [], ℕ, zero, suc, List, Option, Some, None, length, drop, get_or, slice_get, refl, sym, ap, ◌∙◌, arith, add-one}
 use Rattle.std.proofs.Math.Seq.{drop-cons}
 use Rattle.std.proofs.lemmas.List.{drop_all}
-use Rattle.pool_rules.specs.Reading.{accepted_by, submissions_of}
-use Rattle.pool_ways.proofs.NumberLemmas.{numbered_at}
-use Rattle.pool_ways.specs.Lists.{numbered}
-use Rattle.pool_values.specs.declared.entry.Entry.{Entry}
-use Rattle.pool_values.specs.declared.submission.Submission.{Submission}
+use Rattle.model_histories.specs.Reading.{accepted_by, submissions_of}
+use Rattle.model_authority.proofs.NumberLemmas.{numbered_at}
+use Rattle.model_authority.specs.Lists.{numbered}
+use Rattle.model_values.specs.declared.entry.Entry.{Entry}
+use Rattle.model_values.specs.declared.submission.Submission.{Submission}
 use Rattle.judged_port.proofs.orders.submission.Goals as goal
 use Rattle.judged_port.proofs.orders.submission.Goals.{in-Some+else-left-eq1, in_default}
 

@@ -1,6 +1,6 @@
 use Rattle.std.proofs.Common.{◌≡◌, drop}
-use Rattle.pool_rules.specs.Reading.{submissions_of}
-use Rattle.pool_ways.specs.Lists.{numbered}
+use Rattle.model_histories.specs.Reading.{submissions_of}
+use Rattle.model_authority.specs.Lists.{numbered}
 use Rattle.judged_port.proofs.orders.submission.Given as goal
 
 abbrev pub invariant-loop-e : goal.invariant-loop-e

@@ -3,13 +3,13 @@ use Rattle.std.specs.Bool.{OnTrue}
 use Rattle.std.specs.Prelude.{slice_get}
 use Rattle.std.proofs.lemmas.Option.{slice_get_read}
 use Rattle.std.proofs.lemmas.List.{take_all}
-use Rattle.pool_rules.proofs.FirstBadLemmas.{StandBefore, before_none, before_more, bad_at, history_is, unsettled_at}
-use Rattle.pool_rules.proofs.RunLemmas.{run_none, run_at}
-use Rattle.pool_steps.specs.After.{after}
-use Rattle.pool_rules.specs.Histories.{run, MayStand}
-use Rattle.pool_settling.specs.Settling.{IsSettled}
-use Rattle.pool_values.specs.declared.entry.Entry.{Entry}
-use Rattle.pool_values.specs.declared.state.AbstractPool.{AbstractPool}
+use Rattle.model_histories.proofs.FirstBadLemmas.{StandBefore, before_none, before_more, bad_at, history_is, unsettled_at}
+use Rattle.model_histories.proofs.RunLemmas.{run_none, run_at}
+use Rattle.model_steps.specs.After.{after}
+use Rattle.model_histories.specs.Histories.{run, MayStand}
+use Rattle.model_settling.specs.Settling.{IsSettled}
+use Rattle.model_values.specs.declared.entry.Entry.{Entry}
+use Rattle.model_values.specs.declared.state.AbstractPool.{AbstractPool}
 use Rattle.pool_model.proofs.judge.first_bad_of.Goals as goal
 
 not_both : (b : Bool) → b ≡ false → IsTrue b → ⊥

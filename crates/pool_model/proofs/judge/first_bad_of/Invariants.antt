@@ -1,6 +1,6 @@
 use Rattle.std.proofs.Common.{◌≡◌, ◌+◌, take}
-use Rattle.pool_rules.proofs.FirstBadLemmas.{StandBefore}
-use Rattle.pool_rules.specs.Histories.{run}
+use Rattle.model_histories.proofs.FirstBadLemmas.{StandBefore}
+use Rattle.model_histories.specs.Histories.{run}
 use Rattle.pool_model.proofs.judge.first_bad_of.Given as goal
 
 abbrev pub invariant-loop-e : goal.invariant-loop-e

@@ -2,11 +2,11 @@ use Rattle.std.proofs.Common.{◌≡◌, ◌<◌, ◌≤◌, ℕ, List, Some, le
 use Rattle.std.specs.Prelude.{slice_get}
 use Rattle.std.proofs.lemmas.Option.{slice_get_read}
 use Rattle.std.proofs.lemmas.List.{take_all}
-use Rattle.pool_rules.proofs.RunLemmas.{run_none, run_at}
-use Rattle.pool_rules.specs.Histories.{run}
-use Rattle.pool_steps.specs.After.{after}
-use Rattle.pool_values.specs.declared.entry.Entry.{Entry}
-use Rattle.pool_values.specs.declared.state.AbstractPool.{AbstractPool}
+use Rattle.model_histories.proofs.RunLemmas.{run_none, run_at}
+use Rattle.model_histories.specs.Histories.{run}
+use Rattle.model_steps.specs.After.{after}
+use Rattle.model_values.specs.declared.entry.Entry.{Entry}
+use Rattle.model_values.specs.declared.state.AbstractPool.{AbstractPool}
 use Rattle.pool_model.proofs.state.state_of.Goals as goal
 
 pub loop-e-init : goal.loop-e-init

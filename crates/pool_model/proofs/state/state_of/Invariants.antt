@@ -1,5 +1,5 @@
 use Rattle.std.proofs.Common.{◌≡◌, take}
-use Rattle.pool_rules.specs.Histories.{run}
+use Rattle.model_histories.specs.Histories.{run}
 use Rattle.pool_model.proofs.state.state_of.Given as goal
 
 abbrev pub invariant-loop-e : goal.invariant-loop-e

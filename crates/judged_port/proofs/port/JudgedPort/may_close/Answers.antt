@@ -1,8 +1,8 @@
 use Rattle.std.proofs.Common.{ap}
 use Rattle.judged_port.proofs.JudgedLemmas.{allowed}
 use Rattle.judged_port.specs.Judged.{JudgedView, port_of}
-use Rattle.pool_rules.specs.Legal.{MayEnd}
-use Rattle.pool_rules.specs.Port.{PortView, IsEndedOf}
+use Rattle.model_histories.specs.Legal.{MayEnd}
+use Rattle.model_histories.specs.Port.{PortView, IsEndedOf}
 use Rattle.judged_port.proofs.port.JudgedPort.may_close.Goals as goal
 
 pub returns : goal.returns

@@ -1,8 +1,8 @@
 use Rattle.std.proofs.Common.{ap}
 use Rattle.judged_port.proofs.JudgedLemmas.{allowed}
 use Rattle.judged_port.specs.Judged.{JudgedView, port_of}
-use Rattle.pool_rules.specs.Legal.{MayTell}
-use Rattle.pool_rules.specs.Port.{PortView, IsReportedOf}
+use Rattle.model_histories.specs.Legal.{MayTell}
+use Rattle.model_histories.specs.Port.{PortView, IsReportedOf}
 use Rattle.judged_port.proofs.port.JudgedPort.may_report.Goals as goal
 
 pub returns : goal.returns

@@ -1,8 +1,8 @@
 use Rattle.std.proofs.Common.{ap}
 use Rattle.judged_port.proofs.JudgedLemmas.{allowed}
 use Rattle.judged_port.specs.Judged.{JudgedView, port_of}
-use Rattle.pool_rules.specs.Working.{MayWorkAt}
-use Rattle.pool_rules.specs.Port.{PortView, IsWorked}
+use Rattle.model_histories.specs.Working.{MayWorkAt}
+use Rattle.model_histories.specs.Port.{PortView, IsWorked}
 use Rattle.judged_port.proofs.port.JudgedPort.may_work.Goals as goal
 
 pub returns : goal.returns

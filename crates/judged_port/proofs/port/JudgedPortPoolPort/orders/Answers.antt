@@ -1,7 +1,7 @@
 use Rattle.std.proofs.Common.{◌≡◌, Some, length, arith}
 use Rattle.judged_port.proofs.JudgedLemmas.{nothing_ordered}
 use Rattle.judged_port.specs.Judged.{port_of}
-use Rattle.pool_ways.specs.Lists.{numbered}
+use Rattle.model_authority.specs.Lists.{numbered}
 use Rattle.judged_port.proofs.port.JudgedPortPoolPort.orders.Goals as goal
 
 pub returns-then-len-eq0 : goal.returns-then-len-eq0

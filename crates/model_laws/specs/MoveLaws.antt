@@ -1,0 +1,58 @@
+-- Exchanges wait again and are sent again only where they may be (RFC 9110, sections 9.2.2 and 15.5.20; RFC 7838, section 6; RFC 9112,
+-- section 9.3.1; RFC 9113, sections 6.8 and 8.7).
+use Rattle.std.specs.Prelude.{◌≡◌, ◌⊎◌, ◌<◌, ◌≤◌, ◌+◌, ℕ, List, Some, IsTrue, Contains, slice_get}
+use Rattle.net_base.specs.Methods.{is_idempotent_method}
+use Rattle.net_base.specs.declared.end_cause.EndCause.{EndCause}
+use Rattle.net_base.specs.declared.numbers.ConnNo.{ConnNo}
+use Rattle.net_base.specs.declared.numbers.ExchangeNo.{ExchangeNo}
+use Rattle.net_base.specs.declared.numbers.StreamNo.{StreamNo}
+use Rattle.model_changes.specs.Moves.{may_move}
+use Rattle.model_laws.specs.Courses.{state_at, Comes, OfExchange}
+use Rattle.model_histories.specs.Reading.{IsHandingOf}
+use Rattle.model_values.specs.declared.config.Config.{Config}
+use Rattle.model_values.specs.declared.entry.Act.TheVariants.{Closed}
+use Rattle.model_values.specs.declared.entry.Entry.{Entry}
+use Rattle.model_values.specs.declared.outcome.Outcome.TheVariants as outcome
+use Rattle.model_values.specs.declared.state.Exchange.{Exchange}
+use Rattle.model_values.specs.declared.state.Status.TheVariants.{Ended}
+use Rattle.model_authority.specs.Lists.{numbered}
+use Rattle.model_authority.specs.Statuses.{is_leased, is_waiting, is_at}
+
+-- each entry that makes an exchange wait again is one by which it may move
+abbrev pub MovesAreLawful : Type 0
+MovesAreLawful =
+    (config : Config) (h : List Entry) (n : ℕ) (e : Entry) (number : ℕ) (x y : Exchange) → Comes config h n e →
+    numbered number (state_at config h n).exchanges ≡ Some x → IsTrue (is_leased x.status) →
+    numbered number (state_at config h (n + 1)).exchanges ≡ Some y → IsTrue (is_waiting y.status) → IsTrue (may_move x e.act)
+
+-- among the first n entries one hands the start of this stream to its connection
+abbrev pub WasHanded : List Entry → ℕ → ConnNo → StreamNo → Type 0
+WasHanded h n c r = (place : ℕ) × (place ≤ n) × IsHandingOf h c r place
+
+-- among the first n entries one ended a connection to which the exchange's start was handed, and behind it the exchange waited again
+pub record WasRetried (config : Config) (h : List Entry) (n : ℕ) (number : ExchangeNo) : Type 0 where
+  pub before : ℕ
+  pub is_before : before < n
+  pub entry : Entry
+  pub is_entry : slice_get h before ≡ Some entry
+  pub conn : ConnNo
+  pub sent : ℕ
+  pub cause : EndCause
+  pub heard : List StreamNo
+  pub is_closed : entry.act ≡ Closed conn sent cause heard
+  pub stream : StreamNo
+  pub lease : OfExchange (state_at config h before) number (λ y. IsTrue (is_at conn stream y.status))
+  pub handed : WasHanded h before conn stream
+  pub waits : OfExchange (state_at config h (before + 1)) number (λ y. IsTrue (is_waiting y.status))
+
+-- RFC 9110, section 9.2.2: the method isn't idempotent, octets of the answer were heard, or it was sent again once before
+abbrev pub MayNotBeSentAgain : Config → List Entry → ℕ → ExchangeNo → Exchange → StreamNo → List StreamNo → Type 0
+MayNotBeSentAgain config h n number x r heard = (¬ IsTrue (is_idempotent_method x.ask.request.method)) ⊎ (Contains heard r ⊎ WasRetried config h n number)
+
+-- an exchange whose connection ends, to which its start was handed, and that may not be sent again, has ended as lost at each state
+-- behind that
+abbrev pub LostExchangesStayLost : Type 0
+LostExchangesStayLost =
+    (config : Config) (h : List Entry) (n m : ℕ) (e : Entry) (number : ExchangeNo) (x : Exchange) (c : ConnNo) (sent : ℕ) (cause : EndCause) (heard : List StreamNo) (r : StreamNo) →
+    Comes config h n e → e.act ≡ Closed c sent cause heard → numbered number.0 (state_at config h n).exchanges ≡ Some x → IsTrue (is_at c r x.status) → WasHanded h n c r →
+    MayNotBeSentAgain config h n number x r heard → n < m → OfExchange (state_at config h m) number (λ y. y.status ≡ Ended (outcome.Lost c cause))

@@ -1,0 +1,10 @@
+use Rattle.std.proofs.Common.{◌≡◌, ◌+◌, drop}
+use Rattle.model_settling.specs.Due.{lowest_from}
+use Rattle.model_settling.specs.Settling.{is_held_back}
+use Rattle.model_settling.proofs.settle.lowest_held_back.Given as goal
+
+abbrev pub invariant-loop-e : goal.invariant-loop-e
+invariant-loop-e l = record {
+  number : l.number ≡ l.e-index + 1;
+  rest : lowest_from (is_held_back l.s) l.number (drop l.e-index l.list) ≡ lowest_from (is_held_back l.s) 1 l.s.exchanges;
+}

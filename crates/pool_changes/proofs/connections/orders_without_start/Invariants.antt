@@ -1,6 +1,0 @@
-use Rattle.std.proofs.Common.{◌≡◌, take, filter, not}
-use Rattle.pool_changes.specs.Connections.{is_start_of}
-use Rattle.pool_changes.proofs.connections.orders_without_start.Given as goal
-
-abbrev pub invariant-loop-m : goal.invariant-loop-m
-invariant-loop-m l = l.kept ≡ filter (λ m. not (is_start_of l.r m)) (take l.m-index l.orders)

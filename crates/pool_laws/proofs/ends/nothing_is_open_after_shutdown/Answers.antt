@@ -1,5 +1,0 @@
-use Rattle.pool_laws.proofs.ShutLemmas.{nothing_is_open_after_shutdown}
-use Rattle.pool_laws.proofs.ends.nothing_is_open_after_shutdown.Goals as goal
-
-pub returns : goal.returns
-returns c = nothing_is_open_after_shutdown

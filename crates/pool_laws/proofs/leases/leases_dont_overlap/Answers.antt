@@ -1,5 +1,0 @@
-use Rattle.pool_laws.proofs.OverlapLemmas.{leases_dont_overlap}
-use Rattle.pool_laws.proofs.leases.leases_dont_overlap.Goals as goal
-
-pub returns : goal.returns
-returns c = leases_dont_overlap

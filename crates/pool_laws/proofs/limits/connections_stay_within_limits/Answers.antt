@@ -1,5 +1,0 @@
-use Rattle.pool_laws.proofs.SoundLemmas as sound
-use Rattle.pool_laws.proofs.limits.connections_stay_within_limits.Goals as goal
-
-pub returns : goal.returns
-returns c = sound.connections_stay_within_limits

@@ -1,5 +1,0 @@
-use Rattle.pool_laws.proofs.MoveLemmas.{lost_exchanges_stay_lost}
-use Rattle.pool_laws.proofs.moves.lost_exchanges_stay_lost.Goals as goal
-
-pub returns : goal.returns
-returns c = lost_exchanges_stay_lost

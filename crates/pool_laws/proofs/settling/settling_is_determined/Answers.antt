@@ -1,5 +1,0 @@
-use Rattle.pool_laws.proofs.SettlingLemmas as lemmas
-use Rattle.pool_laws.proofs.settling.settling_is_determined.Goals as goal
-
-pub returns : goal.returns
-returns c = lemmas.settling_is_determined

@@ -1,5 +1,0 @@
-use Rattle.pool_laws.proofs.SoundLemmas.{reached_is_sound}
-use Rattle.pool_laws.proofs.sound.reached_is_sound.Goals as goal
-
-pub returns : goal.returns
-returns c = reached_is_sound

@@ -1,5 +1,0 @@
-use Rattle.pool_laws.proofs.WorkerLemmas.{others_change_no_own_calls}
-use Rattle.pool_laws.proofs.workers.others_change_no_own_calls.Goals as goal
-
-pub returns : goal.returns
-returns c = others_change_no_own_calls

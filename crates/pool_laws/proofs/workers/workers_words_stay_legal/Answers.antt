@@ -1,5 +1,0 @@
-use Rattle.pool_laws.proofs.WorkerLemmas.{workers_words_stay_legal}
-use Rattle.pool_laws.proofs.workers.workers_words_stay_legal.Goals as goal
-
-pub returns : goal.returns
-returns c = workers_words_stay_legal
