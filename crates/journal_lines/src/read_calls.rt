@@ -9,7 +9,7 @@ use crate::read_replies::{
 };
 use journal_words::{
     WordFault, read_addresses, read_credentials, read_deadline, read_either, read_fields, read_key,
-    read_octets, read_origin, read_u8, read_u32, read_u64,
+    read_octets, read_origin_word, read_u8, read_u32, read_u64,
 };
 use net_base::{ExchangeNo, Moment, Octets, Request};
 use partition_keys::PartitionKey;
@@ -62,7 +62,7 @@ fn asked_at(
 ) -> Result<(Request, SubmitReply), WordFault>
     ensures { Gives result (spec.asked_at method.now origin.now path.now fields.now body.now (map (λ w. w.now) reply.now)) }
 {
-    let origin = read_origin(alloc, origin)?;
+    let origin = read_origin_word(alloc, origin)?;
     let fields = read_fields(alloc, fields)?;
     let body = read_octets(alloc, body)?;
     let reply = read_submit_reply(alloc, reply)?;
@@ -205,7 +205,7 @@ pub fn read_preconnect(alloc: Global, words: &[&[u8]]) -> Result<Act, WordFault>
     Ok(Act::Preconnect {
         key: read_key(alloc, site)?,
         credentials: read_credentials(credentials)?,
-        origin: read_origin(alloc, origin)?,
+        origin: read_origin_word(alloc, origin)?,
         count: read_u32(alloc, count)?,
         reply: read_preconnect_reply(alloc, reply)?,
     })

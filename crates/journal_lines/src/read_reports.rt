@@ -5,7 +5,7 @@ ghost use Rattle.journal_lines.specs.LineReaders as spec;
 
 use journal_words::{
     WordFault, read_address, read_alt, read_either, read_fields, read_names, read_octets,
-    read_origin, read_proof, read_proto, read_security, read_stream, read_u16, read_u32,
+    read_origin_word, read_proof, read_proto, read_security, read_stream, read_u16, read_u32,
 };
 use net_base::{Identity, Response, StreamNo};
 use model_values::Report;
@@ -165,7 +165,7 @@ fn read_alt_seen(alloc: Global, words: &[&[u8]]) -> Result<Report, WordFault>
 {
     match words {
         [origin, others @ ..] => Ok(Report::AltSeen {
-            origin: read_origin(alloc, origin)?,
+            origin: read_origin_word(alloc, origin)?,
             alt: read_alt(alloc, others)?,
         }),
         _ => Err(WordFault::Unreadable),

@@ -16,7 +16,7 @@ pub use line::{put, put_alt, put_number, put_proof, put_target};
 pub use readers::{
     ReadsWord, parts, read_address, read_addresses, read_alt, read_cause, read_credentials,
     read_deadline, read_either, read_fields, read_key, read_list, read_moment, read_names,
-    read_number, read_octets, read_origin, read_proof, read_proto, read_security, read_stream,
+    read_number, read_octets, read_origin_word, read_proof, read_proto, read_security, read_stream,
     read_streams, read_target, read_u8, read_u16, read_u32, read_u64, read_way,
 };
 pub use texts::{

@@ -417,7 +417,7 @@ fn read_origin_at(alloc: Global, scheme: Scheme, word: &[u8]) -> Result<Origin, 
 }
 
 /// SCHEME://HOST:PORT.
-pub fn read_origin(alloc: Global, word: &[u8]) -> Result<Origin, WordFault>
+pub fn read_origin_word(alloc: Global, word: &[u8]) -> Result<Origin, WordFault>
     ensures { Gives result (spec.origin word.now) }
 {
     if word.starts_with(b"http://") {

@@ -1,7 +1,7 @@
 // What the port's caller may say as a worker, told by the state.
 ghost use Rattle.std.specs.Prelude.{◌↔◌, IsTrue, IfOk};
 ghost use Rattle.judged_port.specs.Judged.{port_of};
-ghost use Rattle.model_histories.specs.Port.{IsEndedOf, IsReportedOf, IsWorked};
+ghost use Rattle.model_histories.specs.Port.{MayCloseBy, MayReportBy, MayWorkBy};
 
 use crate::port::JudgedPort;
 use net_base::{ConnNo, EndCause, NoMem};
@@ -13,7 +13,7 @@ use std::alloc::Global;
 impl JudgedPort {
     /// Whether the caller may ask for the orders of this connection.
     pub fn may_work(&self, alloc: Global, conn: ConnNo, sent: u64) -> Result<bool, NoMem>
-        ensures { IfOk result (λ b. IsTrue b ↔ IsWorked (port_of self.now) conn sent) }
+        ensures { IfOk result (λ b. IsTrue b ↔ MayWorkBy (port_of self.now) conn sent) }
     {
         let s = self.state(alloc)?;
         works_as_state_says();
@@ -28,7 +28,7 @@ impl JudgedPort {
         sent: u64,
         r: &Report,
     ) -> Result<bool, NoMem>
-        ensures { IfOk result (λ b. IsTrue b ↔ IsReportedOf (port_of self.now) conn sent r.now) }
+        ensures { IfOk result (λ b. IsTrue b ↔ MayReportBy (port_of self.now) conn sent r.now) }
     {
         let s = self.state(alloc)?;
         reports_as_state_says();
@@ -43,7 +43,7 @@ impl JudgedPort {
         sent: u64,
         cause: EndCause,
     ) -> Result<bool, NoMem>
-        ensures { IfOk result (λ b. IsTrue b ↔ IsEndedOf (port_of self.now) conn sent cause) }
+        ensures { IfOk result (λ b. IsTrue b ↔ MayCloseBy (port_of self.now) conn sent cause) }
     {
         let s = self.state(alloc)?;
         ends_as_state_says();

@@ -56,10 +56,10 @@ is_coalesced_way way.Direct = false
 is_coalesced_way way.Alternative = false
 is_coalesced_way way.Coalesced = true
 
-abbrev pub is_coalesced : Status → Bool
-is_coalesced Waiting = false
-is_coalesced (Leased conn stream by handed) = is_coalesced_way by
-is_coalesced (Ended outcome) = false
+abbrev pub has_coalesced_lease : Status → Bool
+has_coalesced_lease Waiting = false
+has_coalesced_lease (Leased conn stream by handed) = is_coalesced_way by
+has_coalesced_lease (Ended outcome) = false
 
 abbrev pub is_wanted : Phase → Bool
 is_wanted Wanted = true

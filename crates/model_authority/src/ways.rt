@@ -21,7 +21,7 @@ use std::alloc::Global;
 // ---- targets
 
 /// Whether it is https.
-pub fn https(scheme: Scheme) -> bool
+pub fn is_https(scheme: Scheme) -> bool
     ensures { result ≡ spec.is_https scheme }
 {
     scheme == Scheme::Https
@@ -34,7 +34,7 @@ pub fn origin_parts(o: &Origin) -> TargetParts
     TargetParts {
         host: &o.host,
         port: o.port,
-        secure: https(o.scheme),
+        secure: is_https(o.scheme),
         via: Via::Direct,
     }
 }
@@ -95,7 +95,7 @@ fn is_opportune(m: Moment, probe: bool, a: &Alternative) -> bool
 fn may_take(m: Moment, origin: &Origin, probe: bool, a: &Alternative) -> bool
     ensures { result ≡ spec.may_take m origin.now probe a.now }
 {
-    is_fresh(a, m) && (https(origin.scheme) || is_opportune(m, probe, a))
+    is_fresh(a, m) && (is_https(origin.scheme) || is_opportune(m, probe, a))
 }
 
 /// The first of these alternatives that an exchange of this origin may go over.
@@ -227,7 +227,7 @@ pub fn is_direct(e: &Exchange, c: &Connection) -> bool
 {
     let origin = &e.ask.request.origin;
     same_target(&parts_of_target(&c.group.target), &origin_parts(origin))
-        && (!https(origin.scheme) || shows_secured(&c.identity, &origin.host))
+        && (!is_https(origin.scheme) || shows_secured(&c.identity, &origin.host))
 }
 
 /// Whether the identity was shown, speaks the alternative's protocol, and is the authority for the host.
@@ -245,8 +245,8 @@ fn may_share_alternative(m: Moment, e: &Exchange, c: &Connection, a: &Alternativ
     ensures { result ≡ spec.may_share_alternative m e.now c.now a.now }
 {
     let origin = &e.ask.request.origin;
-    (https(c.group.origin.scheme) && https(origin.scheme))
-        || (!https(origin.scheme)
+    (is_https(c.group.origin.scheme) && is_https(origin.scheme))
+        || (!is_https(origin.scheme)
             && same_origin(&c.group.origin, origin)
             && is_opportune(m, e.ask.probe, a))
 }
@@ -345,8 +345,8 @@ pub fn is_coalesced(s: &AbstractPool, e: &Exchange, c: &Connection) -> bool
     ensures { result ≡ spec.is_coalesced s.now e.now c.now }
 {
     let origin = &e.ask.request.origin;
-    https(origin.scheme)
-        && https(c.group.origin.scheme)
+    is_https(origin.scheme)
+        && is_https(c.group.origin.scheme)
         && c.group.target.port == origin.port
         && shows_server(s, e, &c.identity)
         && !is_excluded(c.excluded.as_slice(), origin)

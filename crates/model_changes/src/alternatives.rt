@@ -258,7 +258,7 @@ fn other_rows(rows: &mut Vec<AltRow>, key: &PartitionKey, origin: &Origin)
 }
 
 /// The row stands at the front.
-fn put_front(rows: &mut Vec<AltRow>, row: AltRow) -> Result<(), NoMem>
+fn put_first(rows: &mut Vec<AltRow>, row: AltRow) -> Result<(), NoMem>
     ensures { OnOk result (rows.new.items ≡ row ∷ rows.old.items) }
 {
     match rows.insert(0, row) {
@@ -298,7 +298,7 @@ fn with_list(
 {
     let row = new_row(alloc, rows.as_slice(), key, origin, list)?;
     other_rows(rows, key, origin);
-    put_front(rows, row)?;
+    put_first(rows, row)?;
     rows.truncate(1024);
     Ok(())
 }

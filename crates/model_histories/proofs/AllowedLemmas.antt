@@ -102,8 +102,8 @@ report_live x r h = (report_phase (is_dialing x.phase) (is_busy x.phase) (is_ope
 pub reports_as_state_says : ReportsAsStateSays
 reports_as_state_says v c sent r history =
     told v c (λ h. (h.sent ≤ sent) × IsReportable h r) (λ x. IsWorkersEntry x v.mine sent × MayReport x r) history (record {
-      there = λ x caller live h. (record { caller = caller; rises = h.0 }, reported_there x r live h.1);
-      back = λ x h. (h.0.caller, report_live x r h.1, (h.0.rises, reported_back x r h.1));
+      there = λ x caller live h. (record { caller = caller; never_falls = h.0 }, reported_there x r live h.1);
+      back = λ x h. (h.0.caller, report_live x r h.1, (h.0.never_falls, reported_back x r h.1));
     })
 
 -- ---- ends
@@ -125,8 +125,8 @@ ended_back x cause.Done h = h
 pub ends_as_state_says : EndsAsStateSays
 ends_as_state_says v c sent end history =
     told v c (λ h. (h.sent ≤ sent) × IsEndable h end) (λ x. IsWorkersEntry x v.mine sent × MayClose x end) history (record {
-      there = λ x caller live h. (record { caller = caller; rises = h.0 }, ended_there x end live h.1);
-      back = λ x h. (h.0.caller, closed_live x end h.1, (h.0.rises, ended_back x end h.1));
+      there = λ x caller live h. (record { caller = caller; never_falls = h.0 }, ended_there x end live h.1);
+      back = λ x h. (h.0.caller, closed_live x end h.1, (h.0.never_falls, ended_back x end h.1));
     })
 
 -- ---- orders
@@ -134,6 +134,6 @@ ends_as_state_says v c sent end history =
 pub works_as_state_says : WorksAsStateSays
 works_as_state_says v c sent history =
     told v c (λ h. MayWork h sent) (λ x. IsWorkersEntry x v.mine sent × IsTrue (is_busy x.phase)) history (record {
-      there = λ x caller live h. (record { caller = caller; rises = h.1 }, h.0);
-      back = λ x h. (h.0.caller, busy_live x.phase h.1, (h.1, h.0.rises));
+      there = λ x caller live h. (record { caller = caller; never_falls = h.1 }, h.0);
+      back = λ x h. (h.0.caller, busy_live x.phase h.1, (h.1, h.0.never_falls));
     })

@@ -10,7 +10,7 @@ use Rattle.net_base.specs.declared.target.Target.{Target}
 use Rattle.model_changes.specs.Connections.{dialing_by, with_taken, with_sent}
 use Rattle.model_histories.proofs.KeepLemmas.{busy_up, wanted_only, Keeps, keeps_up, KeptAt, kept_refl}
 use Rattle.model_histories.proofs.LeaseLemmas.{IsUp}
-use Rattle.model_histories.proofs.OwnLemmas.{IsOneEdit, IsWorked, IsReportedIn, IsGivenUp, busy_live}
+use Rattle.model_histories.proofs.OwnLemmas.{IsOneEdit, MayWorkBy, IsReportedIn, IsGivenUp, busy_live}
 use Rattle.model_histories.specs.Port.{Held, is_opening_report, held_after}
 use Rattle.model_histories.specs.Working.{works_on, holding, held_of}
 use Rattle.model_authority.specs.Lists.{numbered}
@@ -182,7 +182,7 @@ report_phase d false false h = absurd cc
 held_left : (s t : ℕ) (a b : Bool) (xs ys : List StreamNo) → s ≡ t → a ≡ b → xs ≡ ys → held_as s a xs ≡ held_as t b ys
 held_left s t a b xs ys e f g = cc
 
-pub report_goes : (who : CallerNo) (conn : ConnNo) (sent : ℕ) (r : Report) (x y : Connection) → x.caller ≡ who → IsReportedIn x.phase r → IsWorked (with_sent sent x) y →
+pub report_goes : (who : CallerNo) (conn : ConnNo) (sent : ℕ) (r : Report) (x y : Connection) → x.caller ≡ who → IsReportedIn x.phase r → MayWorkBy (with_sent sent x) y →
     Goes who (Reported conn sent r) conn.0 (Some x) (Some y)
 report_goes who conn sent r x y caller reported worked =
     let phase = report_phase (is_dialing x.phase) (is_busy x.phase) (is_opening_report r) reported in

@@ -67,29 +67,29 @@ one_after R number f xs ys x o = record {
 -- ---- reports
 
 -- it was opened, and is still its worker's
-pub record IsWorked (x y : Connection) : Type 0 where
+pub record MayWorkBy (x y : Connection) : Type 0 where
   pub caller : y.caller ≡ x.caller
   pub sent : y.sent ≡ x.sent
   pub started : y.started ≡ x.started
   pub busy : is_busy y.phase ≡ true
 
-worked_keeps : (x y : Connection) → Keeps x y → is_busy x.phase ≡ true → IsWorked x y
+worked_keeps : (x y : Connection) → Keeps x y → is_busy x.phase ≡ true → MayWorkBy x y
 worked_keeps x y k busy = record { caller = k.caller; sent = k.sent; started = k.started; busy = k.busy ∙ busy }
 
 -- one that is dialed is told to close where its identity isn't good
-worked_refused : (id : Identity) (c : Connection) → is_dialing c.phase ≡ true → IsWorked c (refused_with id c)
+worked_refused : (id : Identity) (c : Connection) → is_dialing c.phase ≡ true → MayWorkBy c (refused_with id c)
 unfolding closing
 worked_refused id c dialing =
     let shown : Connection = record c { identity = Some id } in
     let only = dialing_only c.phase dialing in
     let stays : (is_closing c.phase || is_gone c.phase) ≡ false = or_from (is_closing c.phase) (is_gone c.phase) only.2 only.3 in
-    cond_both (is_closing c.phase || is_gone c.phase) shown (record shown { phase = Closing; orders = mark.Close ∷ [] }) (IsWorked c)
+    cond_both (is_closing c.phase || is_gone c.phase) shown (record shown { phase = Closing; orders = mark.Close ∷ [] }) (MayWorkBy c)
     (λ t. absurd cc) (λ f. record { caller = refl; sent = refl; started = refl; busy = refl })
 
-worked_opened : (is_shut : Bool) (now : Moment) (id : Identity) (c : Connection) → is_dialing c.phase ≡ true → IsWorked c (after_opened is_shut now id c)
+worked_opened : (is_shut : Bool) (now : Moment) (id : Identity) (c : Connection) → is_dialing c.phase ≡ true → MayWorkBy c (after_opened is_shut now id c)
 unfolding after_opened
 worked_opened is_shut now id c dialing =
-    cond_both (not is_shut && suits c.group id) (opened_with now id c) (refused_with id c) (IsWorked c)
+    cond_both (not is_shut && suits c.group id) (opened_with now id c) (refused_with id c) (MayWorkBy c)
     (λ t. record { caller = refl; sent = refl; started = refl; busy = refl }) (λ f. worked_refused id c dialing)
 
 keeps_excluding : (act : Act) (lease : Option Exchange) (c : Connection) → Keeps c (excluding_moved act lease c)
@@ -123,32 +123,32 @@ reported_in c (report.AltSeen origin alt) h = h
 
 -- a report keeps the connection its worker's
 pub worked_report : (s : AbstractPool) (conn : ConnNo) (act : Act) (r : Report) (x : Connection) → numbered conn.0 s.connections ≡ Some x → IsReportedIn x.phase r →
-    IsOneEdit IsWorked conn.0 x s.connections (after_report s conn act r).connections
+    IsOneEdit MayWorkBy conn.0 x s.connections (after_report s conn act r).connections
 unfolding after_answered after_open
 worked_report s conn act (report.Opened id) x is_item h =
     let f : Connection → Connection = after_opened (is_some s.shutdown) s.latest id in
-    subst (λ o. IsOneEdit IsWorked conn.0 x s.connections (after_open_of s conn id o).connections) (sym is_item)
-    (one_edit IsWorked conn.0 f s.connections x is_item (worked_opened (is_some s.shutdown) s.latest id x h))
+    subst (λ o. IsOneEdit MayWorkBy conn.0 x s.connections (after_open_of s conn id o).connections) (sym is_item)
+    (one_edit MayWorkBy conn.0 f s.connections x is_item (worked_opened (is_some s.shutdown) s.latest id x h))
 worked_report s conn act (report.Limit n) x is_item h =
-    one_edit IsWorked conn.0 (with_limit n) s.connections x is_item (worked_keeps x (with_limit n x) (keeps_phase x (with_limit n x) refl refl refl refl) h)
+    one_edit MayWorkBy conn.0 (with_limit n) s.connections x is_item (worked_keeps x (with_limit n x) (keeps_phase x (with_limit n x) refl refl refl refl) h)
 worked_report s conn act (report.Answered r response keep alt proof) x is_item h =
     let f : Connection → Connection = connection_after_answer s conn r keep act in
-    one_edit IsWorked conn.0 f s.connections x is_item (worked_keeps x (f x) (keeps_answered s conn r keep act x (busy_up x.phase h).2) h)
+    one_edit MayWorkBy conn.0 f s.connections x is_item (worked_keeps x (f x) (keeps_answered s conn r keep act x (busy_up x.phase h).2) h)
 worked_report s conn act (report.Refused r) x is_item h =
-    one_edit IsWorked conn.0 (without_stream s.latest r) s.connections x is_item (worked_keeps x (without_stream s.latest r x) (keeps_without_stream s.latest r x) h)
+    one_edit MayWorkBy conn.0 (without_stream s.latest r) s.connections x is_item (worked_keeps x (without_stream s.latest r x) (keeps_without_stream s.latest r x) h)
 worked_report s conn act (report.Reset r code) x is_item h =
-    one_edit IsWorked conn.0 (without_stream s.latest r) s.connections x is_item (worked_keeps x (without_stream s.latest r x) (keeps_without_stream s.latest r x) h)
+    one_edit MayWorkBy conn.0 (without_stream s.latest r) s.connections x is_item (worked_keeps x (without_stream s.latest r x) (keeps_without_stream s.latest r x) h)
 worked_report s conn act (report.TooLarge r) x is_item h =
     let f : Connection → Connection = after_too_large s.latest r in
-    one_edit IsWorked conn.0 f s.connections x is_item (worked_keeps x (f x) (keeps_after_too_large s.latest r x (busy_up x.phase h).2) h)
+    one_edit MayWorkBy conn.0 f s.connections x is_item (worked_keeps x (f x) (keeps_after_too_large s.latest r x (busy_up x.phase h).2) h)
 worked_report s conn act (report.StreamClosed r) x is_item h =
-    one_edit IsWorked conn.0 (without_stream s.latest r) s.connections x is_item (worked_keeps x (without_stream s.latest r x) (keeps_without_stream s.latest r x) h)
+    one_edit MayWorkBy conn.0 (without_stream s.latest r) s.connections x is_item (worked_keeps x (without_stream s.latest r x) (keeps_without_stream s.latest r x) h)
 worked_report s conn act (report.Goaway last) x is_item h =
     let f : Connection → Connection = after_goaway s.latest conn s.exchanges last in
-    one_edit IsWorked conn.0 f s.connections x is_item (worked_keeps x (f x) (keeps_after_goaway s.latest conn s.exchanges last x (busy_up x.phase h).2) h)
+    one_edit MayWorkBy conn.0 f s.connections x is_item (worked_keeps x (f x) (keeps_after_goaway s.latest conn s.exchanges last x (busy_up x.phase h).2) h)
 worked_report s conn act (report.AltSeen origin alt) x is_item h =
-    subst (λ o. IsOneEdit IsWorked conn.0 x s.connections (after_alt_seen s origin alt o).connections) (sym is_item)
-    (one_none IsWorked conn.0 s.connections x is_item (worked_keeps x x (keeps_refl x) h))
+    subst (λ o. IsOneEdit MayWorkBy conn.0 x s.connections (after_alt_seen s origin alt o).connections) (sym is_item)
+    (one_none MayWorkBy conn.0 s.connections x is_item (worked_keeps x x (keeps_refl x) h))
 
 -- ---- ends
 

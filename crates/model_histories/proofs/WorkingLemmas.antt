@@ -17,9 +17,9 @@ use Rattle.model_histories.proofs.HeldLemmas.{IsFresh, Goes, kept_goes, one_goes
 use Rattle.model_histories.proofs.HistoryLemmas.{AreStanding, each_standing}
 use Rattle.model_histories.proofs.KeepLemmas.{busy_up, open_busy, keeps_closing, keeps_with_start, keeps_after_shutdown, IsNew, AreKept, kept_same, kept_edit, kept_map, kept_append}
 use Rattle.model_histories.proofs.LeaseLemmas.{IsUp, IsHandable, IsLeaseUp, AreLeasesUp, up_mono, up_after_act, kept_released}
-use Rattle.model_histories.proofs.OwnLemmas.{IsWorked, IsGivenUp, one_edit, one_after, reported_in, worked_report, closed_live, gone_closed}
+use Rattle.model_histories.proofs.OwnLemmas.{MayWorkBy, IsGivenUp, one_edit, one_after, reported_in, worked_report, closed_live, gone_closed}
 use Rattle.model_histories.specs.Histories.{opening, run_from, run}
-use Rattle.model_histories.specs.Legal.{IsWorkersEntry, MayReport, MayClose, MayTake, MayOrder, MayTell, MayEnd, IsReply, IsLegal}
+use Rattle.model_histories.specs.Legal.{IsWorkersEntry, MayReport, MayClose, MayTake, MayTakeAt, MayReportAt, MayCloseAt, IsReply, IsLegal}
 use Rattle.model_histories.specs.Port.{Held, held_after, held_from}
 use Rattle.model_histories.specs.Reading.{calls_of}
 use Rattle.model_histories.specs.Working.{held_of, held_in, HoldsAsStateSays}
@@ -71,9 +71,9 @@ IsFit s who Network = Unit {0}
 IsFit s who Tick = Unit {0}
 IsFit s who (Shutdown reply) = Unit {0}
 IsFit s who (Dial c target) = IsSomeAnd (numbered c.0 s.connections) (λ x. IsTrue (is_wanted x.phase))
-IsFit s who (Orders c sent orders) = MayOrder s who c sent orders
-IsFit s who (Reported c sent report) = MayTell s who c sent report
-IsFit s who (Closed c sent cause heard) = MayEnd s who c sent cause
+IsFit s who (Orders c sent orders) = MayTakeAt s who c sent orders
+IsFit s who (Reported c sent report) = MayReportAt s who c sent report
+IsFit s who (Closed c sent cause heard) = MayCloseAt s who c sent cause
 IsFit s who (Expire e) = Unit {0}
 IsFit s who (Lapse e) = Unit {0}
 IsFit s who (Assign e c r way) = IsSomeAnd (numbered c.0 s.connections) (λ x. IsTrue (is_open x.phase))
@@ -182,8 +182,8 @@ go_report s who c sent r fit =
     let act : Act = Reported c sent r in
     let reported = reported_in x r v.2.1 in
     let first : numbered c.0 t.connections ≡ Some (with_sent sent x) = edit_here c.0 (with_sent sent) s.connections x v.1 in
-    one_goes who act c.0 (λ a b. IsWorked (with_sent sent a) b) x s.connections (after_report t c act r).connections v.1
-    (one_after IsWorked c.0 (with_sent sent) s.connections (after_report t c act r).connections x (worked_report t c act r (with_sent sent x) first reported))
+    one_goes who act c.0 (λ a b. MayWorkBy (with_sent sent a) b) x s.connections (after_report t c act r).connections v.1
+    (one_after MayWorkBy c.0 (with_sent sent) s.connections (after_report t c act r).connections x (worked_report t c act r (with_sent sent x) first reported))
     (report_apart c sent r) (λ y worked. report_goes who c sent r x y v.2.0.caller reported worked)
 
 go_closed : (s : AbstractPool) (who : CallerNo) (c : ConnNo) (sent : ℕ) (end : EndCause) (heard : List StreamNo) → IsFit s who (Closed c sent end heard) → GoAll s who (Closed c sent end heard)

@@ -30,7 +30,7 @@ HasOnePart key = key.second ≡ None
 -- the connection is that worker's, and the octets sent never fall
 pub record IsWorkersEntry (c : Connection) (who : CallerNo) (sent : ℕ) : Type 0 where
   pub caller : c.caller ≡ who
-  pub rises : c.sent ≤ sent
+  pub never_falls : c.sent ≤ sent
 
 -- what may be reported of the connection: it is opened once and first, and a stream was started before it is reported
 abbrev pub MayReport : Connection → Report → Type 0
@@ -61,16 +61,16 @@ abbrev pub GoesTo : AbstractPool → ℕ → Target → Type 0
 GoesTo s number target = IsSomeAnd (numbered number s.connections) (λ c. target ≡ c.group.target)
 
 -- the worker of the connection takes these orders
-abbrev pub MayOrder : AbstractPool → CallerNo → ConnNo → ℕ → List OrderMark → Type 0
-MayOrder s who c sent orders = IsSomeAnd (numbered c.0 s.connections) (λ x. IsWorkersEntry x who sent × MayTake x orders)
+abbrev pub MayTakeAt : AbstractPool → CallerNo → ConnNo → ℕ → List OrderMark → Type 0
+MayTakeAt s who c sent orders = IsSomeAnd (numbered c.0 s.connections) (λ x. IsWorkersEntry x who sent × MayTake x orders)
 
 -- the worker of the connection reports this
-abbrev pub MayTell : AbstractPool → CallerNo → ConnNo → ℕ → Report → Type 0
-MayTell s who c sent report = IsSomeAnd (numbered c.0 s.connections) (λ x. IsWorkersEntry x who sent × MayReport x report)
+abbrev pub MayReportAt : AbstractPool → CallerNo → ConnNo → ℕ → Report → Type 0
+MayReportAt s who c sent report = IsSomeAnd (numbered c.0 s.connections) (λ x. IsWorkersEntry x who sent × MayReport x report)
 
 -- the worker of the connection gives it up by this cause
-abbrev pub MayEnd : AbstractPool → CallerNo → ConnNo → ℕ → EndCause → Type 0
-MayEnd s who c sent cause = IsSomeAnd (numbered c.0 s.connections) (λ x. IsWorkersEntry x who sent × MayClose x cause)
+abbrev pub MayCloseAt : AbstractPool → CallerNo → ConnNo → ℕ → EndCause → Type 0
+MayCloseAt s who c sent cause = IsSomeAnd (numbered c.0 s.connections) (λ x. IsWorkersEntry x who sent × MayClose x cause)
 
 -- ---- calls
 
@@ -85,9 +85,9 @@ IsReply s who Network = Unit {0}
 IsReply s who Tick = IsLate s
 IsReply s who (Shutdown reply) = IsShutReply s reply
 IsReply s who (Dial c target) = IsDial s c target
-IsReply s who (Orders c sent orders) = MayOrder s who c sent orders
-IsReply s who (Reported c sent report) = MayTell s who c sent report
-IsReply s who (Closed c sent cause heard) = MayEnd s who c sent cause
+IsReply s who (Orders c sent orders) = MayTakeAt s who c sent orders
+IsReply s who (Reported c sent report) = MayReportAt s who c sent report
+IsReply s who (Closed c sent cause heard) = MayCloseAt s who c sent cause
 IsReply s who (Expire e) = ⊥
 IsReply s who (Lapse e) = ⊥
 IsReply s who (Assign e c r by) = ⊥

@@ -124,8 +124,8 @@ abbrev pub MayWork : Held → ℕ → Type 0
 MayWork h sent = IsTrue h.opened × (h.sent ≤ sent)
 
 -- the caller holds the connection, it was opened, and the octets sent don't fall
-abbrev pub IsWorked : PortView → ConnNo → ℕ → Type 0
-IsWorked v c sent = IsSomeAnd (held_by v c) (λ h. MayWork h sent)
+abbrev pub MayWorkBy : PortView → ConnNo → ℕ → Type 0
+MayWorkBy v c sent = IsSomeAnd (held_by v c) (λ h. MayWork h sent)
 
 abbrev pub IsReportable : Held → Report → Type 0
 IsReportable h (report.Opened id) = ¬ IsTrue h.opened
@@ -139,8 +139,8 @@ IsReportable h (report.Goaway last) = IsTrue h.opened
 IsReportable h (report.AltSeen origin alt) = IsTrue h.opened
 
 -- the caller holds the connection, and may report this
-abbrev pub IsReportedOf : PortView → ConnNo → ℕ → Report → Type 0
-IsReportedOf v c sent r = IsSomeAnd (held_by v c) (λ h. (h.sent ≤ sent) × IsReportable h r)
+abbrev pub MayReportBy : PortView → ConnNo → ℕ → Report → Type 0
+MayReportBy v c sent r = IsSomeAnd (held_by v c) (λ h. (h.sent ≤ sent) × IsReportable h r)
 
 abbrev pub IsEndable : Held → EndCause → Type 0
 IsEndable h cause.DialFailed = ¬ IsTrue h.opened
@@ -150,8 +150,8 @@ IsEndable h (cause.Broken code place) = IsTrue h.opened
 IsEndable h cause.Done = IsTrue h.opened
 
 -- the caller holds the connection, and may give it up by this cause
-abbrev pub IsEndedOf : PortView → ConnNo → ℕ → EndCause → Type 0
-IsEndedOf v c sent end = IsSomeAnd (held_by v c) (λ h. (h.sent ≤ sent) × IsEndable h end)
+abbrev pub MayCloseBy : PortView → ConnNo → ℕ → EndCause → Type 0
+MayCloseBy v c sent end = IsSomeAnd (held_by v c) (λ h. (h.sent ≤ sent) × IsEndable h end)
 
 -- ---- the calls that may leave no entry
 

@@ -4,8 +4,8 @@ use Rattle.net_base.specs.declared.end_cause.EndCause.{EndCause}
 use Rattle.net_base.specs.declared.numbers.CallerNo.{CallerNo}
 use Rattle.net_base.specs.declared.numbers.ConnNo.{ConnNo}
 use Rattle.model_histories.specs.Histories.{IsHistory, run}
-use Rattle.model_histories.specs.Legal.{IsWorkersEntry, MayTell, MayEnd}
-use Rattle.model_histories.specs.Port.{PortView, Held, held_from, IsWorked, IsReportedOf, IsEndedOf}
+use Rattle.model_histories.specs.Legal.{IsWorkersEntry, MayReportAt, MayCloseAt}
+use Rattle.model_histories.specs.Port.{PortView, Held, held_from, MayWorkBy, MayReportBy, MayCloseBy}
 use Rattle.model_histories.specs.Reading.{calls_of}
 use Rattle.model_authority.specs.Lists.{numbered}
 use Rattle.model_authority.specs.Statuses.{is_dialing, is_busy}
@@ -43,12 +43,12 @@ MayWorkAt s who c sent = IsSomeAnd (numbered c.0 s.connections) (λ x. IsWorkers
 
 -- in each history, what a caller may report by its own entries alone is what is legal for it at the state
 abbrev pub ReportsAsStateSays : Type 0
-ReportsAsStateSays = (v : PortView) (c : ConnNo) (sent : ℕ) (r : Report) → IsHistory v.config v.seen → IsReportedOf v c sent r ↔ MayTell (run v.config v.seen) v.mine c sent r
+ReportsAsStateSays = (v : PortView) (c : ConnNo) (sent : ℕ) (r : Report) → IsHistory v.config v.seen → MayReportBy v c sent r ↔ MayReportAt (run v.config v.seen) v.mine c sent r
 
 -- and so is how it may give up a connection
 abbrev pub EndsAsStateSays : Type 0
-EndsAsStateSays = (v : PortView) (c : ConnNo) (sent : ℕ) (end : EndCause) → IsHistory v.config v.seen → IsEndedOf v c sent end ↔ MayEnd (run v.config v.seen) v.mine c sent end
+EndsAsStateSays = (v : PortView) (c : ConnNo) (sent : ℕ) (end : EndCause) → IsHistory v.config v.seen → MayCloseBy v c sent end ↔ MayCloseAt (run v.config v.seen) v.mine c sent end
 
 -- it may ask for the orders of the connections that are its own and were opened
 abbrev pub WorksAsStateSays : Type 0
-WorksAsStateSays = (v : PortView) (c : ConnNo) (sent : ℕ) → IsHistory v.config v.seen → IsWorked v c sent ↔ MayWorkAt (run v.config v.seen) v.mine c sent
+WorksAsStateSays = (v : PortView) (c : ConnNo) (sent : ℕ) → IsHistory v.config v.seen → MayWorkBy v c sent ↔ MayWorkAt (run v.config v.seen) v.mine c sent

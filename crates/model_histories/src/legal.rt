@@ -74,7 +74,7 @@ fn may_resolve(
 
 /// Whether a worker may take these orders.
 fn may_order(s: &AbstractPool, who: CallerNo, conn: ConnNo, sent: u64, orders: &OrderMarks) -> bool
-    ensures { IsTrue result ↔ spec.MayOrder s.now who conn sent orders.now }
+    ensures { IsTrue result ↔ spec.MayTakeAt s.now who conn sent orders.now }
 {
     match numbered(u64::from(conn.0), s.connections.as_slice()) {
         None => false,
@@ -94,7 +94,7 @@ pub fn may_work(s: &AbstractPool, who: CallerNo, conn: ConnNo, sent: u64) -> boo
 
 /// Whether a worker may report this.
 pub fn may_tell(s: &AbstractPool, who: CallerNo, conn: ConnNo, sent: u64, report: &Report) -> bool
-    ensures { IsTrue result ↔ spec.MayTell s.now who conn sent report.now }
+    ensures { IsTrue result ↔ spec.MayReportAt s.now who conn sent report.now }
 {
     match numbered(u64::from(conn.0), s.connections.as_slice()) {
         None => false,
@@ -104,7 +104,7 @@ pub fn may_tell(s: &AbstractPool, who: CallerNo, conn: ConnNo, sent: u64, report
 
 /// Whether a worker may give up its connection by this cause.
 pub fn may_end(s: &AbstractPool, who: CallerNo, conn: ConnNo, sent: u64, cause: EndCause) -> bool
-    ensures { IsTrue result ↔ spec.MayEnd s.now who conn sent cause }
+    ensures { IsTrue result ↔ spec.MayCloseAt s.now who conn sent cause }
 {
     match numbered(u64::from(conn.0), s.connections.as_slice()) {
         None => false,

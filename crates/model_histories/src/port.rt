@@ -1,7 +1,7 @@
 // What a caller of a pool uses, whether the pool is its own or shared with others.
 ghost use Rattle.std.specs.Prelude.{◌≡◌, ◌≤◌, MatchResult};
 ghost use Rattle.model_histories.specs.Legal.{HasOnePart};
-ghost use Rattle.model_histories.specs.Port.{PortView, Leaves, LeavesNone, IsLookAt, IsSeekAt, IsOrdersAt, IsWorked, IsReportedOf, IsEndedOf};
+ghost use Rattle.model_histories.specs.Port.{PortView, Leaves, LeavesNone, IsLookAt, IsSeekAt, IsOrdersAt, MayWorkBy, MayReportBy, MayCloseBy};
 ghost use Rattle.model_values.specs.declared.entry.Act.TheVariants as act;
 
 use net_base::{Addresses, EndCause, ExchangeNo, Moment, NoMem, Octets, Origin, StreamList};
@@ -102,7 +102,7 @@ pub trait PoolPort {
         conn: &ConnTicket,
         sent: u64,
     ) -> Result<OrdersReply, NoMem>
-        requires { IsWorked (port self.old) conn.now sent }
+        requires { MayWorkBy (port self.old) conn.now sent }
         ensures { MatchResult result (λ reply. IsOrdersAt (port self.old) moment conn.now sent reply (port self.new)) (λ _. LeavesNone (port self.old) (port self.new)) };
 
     /// Reports of a connection that the caller dialed: Opened once and first, and of a stream only what was started.
@@ -115,7 +115,7 @@ pub trait PoolPort {
         sent: u64,
         r: Report,
     ) -> Result<(), NoMem>
-        requires { IsReportedOf (port self.old) conn.now sent r }
+        requires { MayReportBy (port self.old) conn.now sent r }
         ensures { MatchResult result (λ _. Leaves (port self.old) moment (act.Reported conn.now sent r) (port self.new)) (λ _. LeavesNone (port self.old) (port self.new)) };
 
     /// Gives up a connection: with `DialFailed` before it was opened, and with any other cause after that. `sent` never
@@ -129,6 +129,6 @@ pub trait PoolPort {
         cause: EndCause,
         heard: StreamList,
     ) -> Result<(), TicketKept>
-        requires { IsEndedOf (port self.old) conn sent cause }
+        requires { MayCloseBy (port self.old) conn sent cause }
         ensures { MatchResult result (λ _. Leaves (port self.old) moment (act.Closed conn sent cause heard) (port self.new)) (λ kept. (kept.0 ≡ conn) × LeavesNone (port self.old) (port self.new)) };
 }

@@ -27,7 +27,7 @@ use Rattle.model_changes.specs.Moves.{may_move}
 use Rattle.model_histories.specs.Histories.{opening}
 use Rattle.model_steps.specs.After.{noted, after_submit, after_cancel, after_reprioritise, after_preconnect, after_resolved, after_network, after_shut, after_dial, after_orders, after_useless, is_useless, after_identity_of, after_open_of, after_open, lease_at, alternatives_of_move, alternatives_of_end, alternatives_of_lease, alternatives_by, alternatives_after_answer, after_answered, after_leases, after_alt_seen, after_report, is_dial_failed, after_failed_dial, after_closed, after_expire, after_lapse, after_assign, after_want_of, after_want, after_evict, sent_noted, after_act, after}
 use Rattle.model_authority.specs.Lists.{numbered}
-use Rattle.model_authority.specs.Statuses.{is_coalesced}
+use Rattle.model_authority.specs.Statuses.{has_coalesced_lease}
 use Rattle.model_authority.specs.Ways.{is_row_of, list_of}
 use Rattle.model_values.specs.declared.config.Config.{Config}
 use Rattle.model_values.specs.declared.entry.Act.{Act}
@@ -97,7 +97,7 @@ few_persistent rows few = few_map persistent_in rows few
 
 few_move : (e : Exchange) (t : Target) (rows : List AltRow) → AreFew rows → AreFew (alternatives_of_move e t rows)
 few_move e t rows few =
-    cond_both (is_coalesced e.status) rows (dropped_alternatives e.ask.key e.ask.request.origin t rows) AreFew
+    cond_both (has_coalesced_lease e.status) rows (dropped_alternatives e.ask.key e.ask.request.origin t rows) AreFew
     (λ c. few) (λ f. few_dropped e.ask.key e.ask.request.origin t rows few)
 
 few_end : (e : Exchange) (t : Target) (alt : AltUpdate) (given : Proof) (rows : List AltRow) → AreFew rows → AreFew (alternatives_of_end e t alt given rows)

@@ -21,7 +21,7 @@ use Rattle.model_histories.proofs.EditLemmas.{none_numbered, edit_here, edit_at,
 use Rattle.model_histories.proofs.OwnLemmas.{IsReportedIn, reported_in}
 use Rattle.model_histories.proofs.RunLemmas.{config-after}
 use Rattle.model_histories.specs.Histories.{opening, MayStand}
-use Rattle.model_histories.specs.Legal.{IsWorkersEntry, MayReport, MayTake, MayOrder, MayTell, IsReply, IsLegal}
+use Rattle.model_histories.specs.Legal.{IsWorkersEntry, MayReport, MayTake, MayTakeAt, MayReportAt, IsReply, IsLegal}
 use Rattle.model_settling.specs.Settling.{can_use, IsAssign, IsDue}
 use Rattle.model_steps.specs.After.{noted, after_submit, released_lease, released_by, released, after_cancel, after_reprioritise, after_preconnect, after_resolved, after_network, after_shut, after_dial, after_orders, after_useless, after_open_of, after_open, connection_after_answer, after_answered, after_leases, after_alt_seen, after_report, is_dial_failed, after_failed_dial, after_closed, after_expire, after_lapse, after_assign, wanted_connection, after_want_of, after_want, after_evict, sent_noted, after_act, after}
 use Rattle.model_authority.proofs.NumberLemmas.{value_and, passing}
@@ -161,7 +161,7 @@ stay_sent : (config : Config) (s : AbstractPool) (c : ConnNo) (sent : ℕ) → S
 stay_sent config s c sent = stay_by config c.0 (with_sent sent) s.connections (λ x. orderly_same config x (with_sent sent x) refl refl refl refl refl refl)
 
 -- the orders that are taken are the pending ones
-stay_orders : (config : Config) (s : AbstractPool) (who : CallerNo) (c : ConnNo) (sent : ℕ) (orders : List OrderMark) → MayOrder s who c sent orders →
+stay_orders : (config : Config) (s : AbstractPool) (who : CallerNo) (c : ConnNo) (sent : ℕ) (orders : List OrderMark) → MayTakeAt s who c sent orders →
     StayOrderly config s.connections (after_orders (sent_noted s c sent) c orders).connections
 unfolding after_orders
 stay_orders config s who c sent orders fit =
@@ -197,7 +197,7 @@ stay_report config s c act (report.AltSeen origin alt) fit = by (numbered c.0 s.
     by None = stay_same config s.connections
     by (Some x) = stay_same config s.connections
 
-stay_reported : (config : Config) (s : AbstractPool) (who : CallerNo) (c : ConnNo) (sent : ℕ) (act : Act) (r : Report) → MayTell s who c sent r →
+stay_reported : (config : Config) (s : AbstractPool) (who : CallerNo) (c : ConnNo) (sent : ℕ) (act : Act) (r : Report) → MayReportAt s who c sent r →
     StayOrderly config s.connections (after_report (sent_noted s c sent) c act r).connections
 stay_reported config s who c sent act r fit =
     let t : AbstractPool = sent_noted s c sent in

@@ -34,7 +34,7 @@ use Rattle.model_laws.specs.Sound.{RowsAreApart}
 use Rattle.model_histories.specs.Histories.{opening}
 use Rattle.model_steps.specs.After.{noted, after_submit, after_cancel, after_reprioritise, after_preconnect, other_hosts, after_resolved, after_network, after_shut, after_dial, after_orders, with_proto, after_useless, is_useless, after_identity_of, after_open_of, after_open, lease_at, alternatives_of_move, alternatives_of_end, alternatives_of_lease, alternatives_by, alternatives_after_answer, after_answered, after_leases, after_alt_seen, after_report, is_dial_failed, after_failed_dial, after_closed, after_expire, after_lapse, after_assign, after_want_of, after_want, after_evict, sent_noted, after_act, after}
 use Rattle.model_authority.specs.Lists.{numbered}
-use Rattle.model_authority.specs.Statuses.{is_coalesced}
+use Rattle.model_authority.specs.Statuses.{has_coalesced_lease}
 use Rattle.model_authority.specs.Ways.{is_row_of, is_host_row_of, list_of}
 use Rattle.model_values.specs.declared.config.Config.{Config}
 use Rattle.model_values.specs.declared.entry.Act.{Act}
@@ -179,7 +179,7 @@ apart_persistent rows apart = apart_lists persistent_in rows (λ x. record { key
 
 apart_move : (e : Exchange) (t : Target) (rows : List AltRow) → AreOfOrigins rows → AreOfOrigins (alternatives_of_move e t rows)
 apart_move e t rows apart =
-    cond_both (is_coalesced e.status) rows (dropped_alternatives e.ask.key e.ask.request.origin t rows) AreOfOrigins
+    cond_both (has_coalesced_lease e.status) rows (dropped_alternatives e.ask.key e.ask.request.origin t rows) AreOfOrigins
     (λ c. apart) (λ f. apart_dropped e.ask.key e.ask.request.origin t rows apart)
 
 apart_end : (e : Exchange) (t : Target) (alt : AltUpdate) (given : Proof) (rows : List AltRow) → AreOfOrigins rows → AreOfOrigins (alternatives_of_end e t alt given rows)

@@ -22,7 +22,7 @@ use Rattle.model_laws.specs.MoveLaws.{WasHanded}
 use Rattle.model_laws.specs.Sound.{StartedAreSent}
 use Rattle.model_histories.proofs.EditLemmas.{none_numbered, edit_here, map_at}
 use Rattle.model_histories.specs.Histories.{opening, MayStand, IsHistory}
-use Rattle.model_histories.specs.Legal.{IsWorkersEntry, MayTake, MayOrder, IsReply}
+use Rattle.model_histories.specs.Legal.{IsWorkersEntry, MayTake, MayTakeAt, IsReply}
 use Rattle.model_histories.specs.Reading.{hands_by}
 use Rattle.model_settling.specs.Settling.{IsDue}
 use Rattle.model_steps.specs.After.{noted, after_orders, sent_noted, after_act, after}
@@ -113,7 +113,7 @@ none_unsent s c sent orders r n starts h =
     map_at (λ (o p : Option Exchange). HasUnsent c r p → ⊥) n (handed_by c orders) s.exchanges (λ k. k) (λ x k. handed_now c orders r x.status starts k) h
 
 -- and the stream was started
-now_started : (s : AbstractPool) (who : CallerNo) (c : ConnNo) (sent : ℕ) (orders : List OrderMark) (r : StreamNo) → MayOrder s who c sent orders →
+now_started : (s : AbstractPool) (who : CallerNo) (c : ConnNo) (sent : ℕ) (orders : List OrderMark) (r : StreamNo) → MayTakeAt s who c sent orders →
     list_any (is_start_of r) orders ≡ true → HasStarted r (numbered c.0 (after_orders (sent_noted s c sent) c orders).connections)
 unfolding after_orders
 now_started s who c sent orders r may starts =
@@ -175,7 +175,7 @@ sent_opening config = sent_to (opening config) (λ n c r h k. absurd (none_lease
 
 -- ---- streams whose start was handed
 
-may_order : (s : AbstractPool) (e : Entry) (c : ConnNo) (r : StreamNo) (o : Hands e.act c r) → MayStand s e → MayOrder (noted s e.moment) e.who c o.sent o.orders
+may_order : (s : AbstractPool) (e : Entry) (c : ConnNo) (r : StreamNo) (o : Hands e.act c r) → MayStand s e → MayTakeAt (noted s e.moment) e.who c o.sent o.orders
 may_order s e c r o stand = elim stand.legal [
   | inl pools ↦ let never : IsDue s (Orders c o.sent o.orders) = subst (IsDue s) o.is_orders pools.due in absurd never
   | inr calls ↦ subst (IsReply (noted s e.moment) e.who) o.is_orders calls.reply

@@ -110,7 +110,7 @@ stable_dial s c t =
 stable_workers : (c : Connection) (who : CallerNo) (sent : ℕ) → IsStable (IsWorkersEntry c who sent)
 stable_workers c who sent h = record {
   caller = same_caller c.caller who (λ n. h (λ w. n w.caller));
-  rises = stable_most c.sent sent (λ n. h (λ w. n w.rises));
+  never_falls = stable_most c.sent sent (λ n. h (λ w. n w.never_falls));
 }
 
 stable_take : (c : Connection) (orders : List OrderMark) → IsStable (MayTake c orders)

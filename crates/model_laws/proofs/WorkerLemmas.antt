@@ -10,7 +10,7 @@ use Rattle.net_base.specs.declared.numbers.Moment.{Moment}
 use Rattle.model_laws.specs.WorkerLaws.{GoesOn, IsWorkersWord, WorkersWordsStayLegal, WorkersMayGoOnTaking, WorkersMayGoOnAsking, OthersChangeNoOwnCalls}
 use Rattle.model_histories.proofs.AllowedLemmas.{reports_as_state_says, ends_as_state_says, works_as_state_says}
 use Rattle.model_histories.specs.Histories.{run}
-use Rattle.model_histories.specs.Legal.{IsWorkersEntry, MayTake, MayOrder, MayTell, MayEnd, IsReply, IsLegal}
+use Rattle.model_histories.specs.Legal.{IsWorkersEntry, MayTake, MayTakeAt, MayReportAt, MayCloseAt, IsReply, IsLegal}
 use Rattle.model_histories.specs.Port.{PortView, NoneOf, Held, held_from, MayWork, IsReportable, IsEndable}
 use Rattle.model_histories.specs.Reading.{calls_of, given_by, Own, own_from}
 use Rattle.model_histories.specs.Working.{MayWorkAt}
@@ -78,7 +78,7 @@ still_held : (who : CallerNo) (c : ConnNo) (h more : List Entry) (P : Held → T
 still_held who c h more P none holds = subst (λ calls. IsSomeAnd (held_from c None calls) P) (sym (same_calls who h more none)) holds
 
 still_tells : (config : Config) (who : CallerNo) (h more : List Entry) (c : ConnNo) (sent : ℕ) (r : Report) → GoesOn config who h more →
-    MayTell (run config h) who c sent r → MayTell (run config (h ++ more)) who c sent r
+    MayReportAt (run config h) who c sent r → MayReportAt (run config (h ++ more)) who c sent r
 unfolding view
 still_tells config who h more c sent r goes tells =
     let held = (reports_as_state_says (view config who h) c sent r goes.history).1 tells in
@@ -86,7 +86,7 @@ still_tells config who h more c sent r goes tells =
     (still_held who c h more (λ k. (k.sent ≤ sent) × IsReportable k r) goes.others held)
 
 still_ends : (config : Config) (who : CallerNo) (h more : List Entry) (c : ConnNo) (sent : ℕ) (end : EndCause) → GoesOn config who h more →
-    MayEnd (run config h) who c sent end → MayEnd (run config (h ++ more)) who c sent end
+    MayCloseAt (run config h) who c sent end → MayCloseAt (run config (h ++ more)) who c sent end
 unfolding view
 still_ends config who h more c sent end goes ends =
     let held = (ends_as_state_says (view config who h) c sent end goes.history).1 ends in
@@ -157,28 +157,28 @@ order_item x xs = omega arith
 
 -- the orders of a connection are none, or may be taken
 none_or_taken : (s : AbstractPool) (who : CallerNo) (c : ConnNo) (sent : ℕ) (y : Connection) → numbered c.0 s.connections ≡ Some y → IsWorkersEntry y who sent → IsTrue (is_busy y.phase) →
-    (y.orders ≡ []) ⊎ MayOrder s who c sent y.orders
+    (y.orders ≡ []) ⊎ MayTakeAt s who c sent y.orders
 none_or_taken s who c sent y is_item own busy = by y.orders refl
   where
-    by : (orders : List OrderMark) → orders ≡ y.orders → (orders ≡ []) ⊎ MayOrder s who c sent orders
+    by : (orders : List OrderMark) → orders ≡ y.orders → (orders ≡ []) ⊎ MayTakeAt s who c sent orders
     by [] same = inl refl
     by (x ∷ xs) same = inr (and_value (numbered c.0 s.connections) (λ z. IsWorkersEntry z who sent × MayTake z (x ∷ xs)) y is_item (own, (busy, same, order_item x xs)))
 
 -- whoever may take orders may ask for them
-asks : (s : AbstractPool) (who : CallerNo) (c : ConnNo) (sent : ℕ) (orders : List OrderMark) → MayOrder s who c sent orders → MayWorkAt s who c sent
+asks : (s : AbstractPool) (who : CallerNo) (c : ConnNo) (sent : ℕ) (orders : List OrderMark) → MayTakeAt s who c sent orders → MayWorkAt s who c sent
 asks s who c sent orders may =
     let v = value_and (numbered c.0 s.connections) (λ x. IsWorkersEntry x who sent × MayTake x orders) may in
     and_value (numbered c.0 s.connections) (λ x. IsWorkersEntry x who sent × IsTrue (is_busy x.phase)) v.0 v.1 (v.2.0, v.2.1.0)
 
 -- an entry that takes orders, and what its legality asks of the state
-pub may_order : (s : AbstractPool) (e : Entry) (c : ConnNo) (sent : ℕ) (orders : List OrderMark) → e.act ≡ Orders c sent orders → IsLegal s e → (e.who.0 ≢ 0) × MayOrder s e.who c sent orders
+pub may_order : (s : AbstractPool) (e : Entry) (c : ConnNo) (sent : ℕ) (orders : List OrderMark) → e.act ≡ Orders c sent orders → IsLegal s e → (e.who.0 ≢ 0) × MayTakeAt s e.who c sent orders
 unfolding noted
 may_order s e c sent orders is legal = elim legal [
   | inl pools ↦ let due : IsDue s (Orders c sent orders) = subst (IsDue s) is pools.due in absurd due
   | inr calls ↦ (calls.caller, subst (IsReply (noted s e.moment) e.who) is calls.reply)
 ]
 
-takes_legally : (s : AbstractPool) (e : Entry) (c : ConnNo) (sent : ℕ) (orders : List OrderMark) → e.who.0 ≢ 0 → MayOrder s e.who c sent orders → IsLegal s (record e { act = Orders c sent orders })
+takes_legally : (s : AbstractPool) (e : Entry) (c : ConnNo) (sent : ℕ) (orders : List OrderMark) → e.who.0 ≢ 0 → MayTakeAt s e.who c sent orders → IsLegal s (record e { act = Orders c sent orders })
 unfolding noted
 takes_legally s e c sent orders caller may = inr (record { caller = caller; reply = may })
 

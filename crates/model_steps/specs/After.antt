@@ -24,7 +24,7 @@ use Rattle.model_steps.specs.Exchanges.{new_exchange, with_status, ended_by, wit
 use Rattle.model_authority.specs.Lists.{numbered, edit}
 use Rattle.model_changes.specs.Moves.{may_move}
 use Rattle.model_authority.specs.Ways.{group_for}
-use Rattle.model_authority.specs.Statuses.{is_at, is_coalesced}
+use Rattle.model_authority.specs.Statuses.{is_at, has_coalesced_lease}
 use Rattle.model_authority.specs.Ways.{is_host_row_of}
 use Rattle.model_values.specs.declared.entry.Act.{Act}
 use Rattle.model_values.specs.declared.entry.Act.TheVariants.{Submit, Cancel, Reprioritise, Preconnect, Resolved, Network, Tick, Shutdown, Dial, Orders, Reported, Closed, Expire, Lapse, Assign, Want, Evict}
@@ -162,7 +162,7 @@ lease_at s conn r = find (λ e. is_at conn r e.status) s.exchanges
 -- RFC 7838, section 6: an alternative that misdirected an exchange is no alternative. One that is coalesced says nothing
 -- of the exchange's own
 abbrev pub alternatives_of_move : Exchange → Target → List AltRow → List AltRow
-alternatives_of_move e t rows = if is_coalesced e.status then rows else dropped_alternatives e.ask.key e.ask.request.origin t rows
+alternatives_of_move e t rows = if has_coalesced_lease e.status then rows else dropped_alternatives e.ask.key e.ask.request.origin t rows
 
 -- RFC 7838, section 3, and RFC 8164, section 2.3: first the answer's list, then its proof
 abbrev pub alternatives_of_end : Exchange → Target → AltUpdate → Proof → List AltRow → List AltRow

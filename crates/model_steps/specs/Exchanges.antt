@@ -7,7 +7,7 @@ use Rattle.net_base.specs.declared.numbers.Moment.{Moment}
 use Rattle.net_base.specs.declared.numbers.StreamNo.{StreamNo}
 use Rattle.model_changes.specs.Connections.{is_start_of}
 use Rattle.model_changes.specs.Moves.{may_move}
-use Rattle.model_authority.specs.Statuses.{is_waiting, has_ended, is_on, is_at, is_handed, is_coalesced}
+use Rattle.model_authority.specs.Statuses.{is_waiting, has_ended, is_on, is_at, is_handed, has_coalesced_lease}
 use Rattle.model_values.specs.declared.entry.Act.{Act}
 use Rattle.model_values.specs.declared.entry.Act.TheVariants.{Submit, Cancel, Reprioritise, Preconnect, Resolved, Network, Tick, Shutdown, Dial, Orders, Reported, Closed, Expire, Lapse, Assign, Want, Evict}
 use Rattle.model_values.specs.declared.order.OrderMark.{OrderMark}
@@ -55,7 +55,7 @@ moved e = if nat_le 5 e.moves then ended_by outcome.TooManyMoves e else record e
 
 -- RFC 9110, section 15.5.20: one that was misdirected where it was coalesced goes to its origin itself from now on
 abbrev pub as_misdirected : Exchange → Exchange
-as_misdirected e = record e { direct_only = e.direct_only || is_coalesced e.status }
+as_misdirected e = record e { direct_only = e.direct_only || has_coalesced_lease e.status }
 
 -- RFC 9110, section 9.2.2: one that may have been sent is retried once
 abbrev pub as_retried : Exchange → Exchange

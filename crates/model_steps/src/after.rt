@@ -8,7 +8,7 @@ use crate::calls::{
     after_resolved, after_shut, after_submit, group_parts_for,
 };
 use crate::pools_entries::{after_assign, after_evict, after_expire, after_lapse, after_want};
-use crate::worked::{after_closed, after_report, note_sent};
+use crate::workers_entries::{after_closed, after_report, note_sent};
 use net_base::{CallerNo, ConnNo, NoMem, Origin};
 use partition_keys::PartitionKey;
 use model_values::{AbstractPool, Act, OrderMarks, PreconnectReply};

@@ -42,8 +42,8 @@ fn wait_again(e: &mut Exchange)
 }
 
 /// Whether the lease is coalesced.
-pub fn is_coalesced(e: &Exchange) -> bool
-    ensures { result ≡ statuses.is_coalesced e.now.status }
+pub fn has_coalesced_lease(e: &Exchange) -> bool
+    ensures { result ≡ statuses.has_coalesced_lease e.now.status }
 {
     match &e.status {
         Status::Leased { way, .. } => *way == Way::Coalesced,
@@ -71,7 +71,7 @@ fn mark_by(act: &Act, e: &mut Exchange)
         Act::Reported {
             report: Report::Answered { .. },
             ..
-        } => e.direct_only = e.direct_only || is_coalesced(e),
+        } => e.direct_only = e.direct_only || has_coalesced_lease(e),
         Act::Closed { .. } => e.retried = e.retried || is_handed(e),
         _ => {}
     }

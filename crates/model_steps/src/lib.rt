@@ -6,4 +6,4 @@ pub mod after;
 pub mod calls;
 pub mod exchanges;
 pub mod pools_entries;
-pub mod worked;
+pub mod workers_entries;

@@ -80,13 +80,13 @@ some_behind : (s : List ℕ) (i : ℕ) → i < length s → 0 < length (drop i s
 some_behind s i lt = omega (arith, length-drop i s)
 
 -- a front of the text was written
-put_front : (u v : SinkView) (s : List ℕ) (i : ℕ) → i < length s → HasPut u v (take i s) → WritesFront u s v
-put_front u v s i lt h = (take i s, drop i s, cut s i, some_behind s i lt, h.written)
+written_front : (u v : SinkView) (s : List ℕ) (i : ℕ) → i < length s → HasPut u v (take i s) → WritesFront u s v
+written_front u v s i lt h = (take i s, drop i s, cut s i, some_behind s i lt, h.written)
 
 -- nothing was taken of the rest
 pub front_refused : (u v w : SinkView) (s : List ℕ) (i n : ℕ) → i < length s → HasPut u v (take i s) → SinkTook v w (take (length s - i) (drop i s)) n → n ≡ 0
     → Rose u.faults w.faults × WritesFront u s w
-front_refused u v w s i n lt h t none = (rose_later _ _ _ h.faults (t.none none), put_front u w s (i + n) (omega (arith, lt, none)) (put_more u v w s i n h t))
+front_refused u v w s i n lt h t none = (rose_later _ _ _ h.faults (t.none none), written_front u w s (i + n) (omega (arith, lt, none)) (put_more u v w s i n h t))
 
 -- the write of the rest failed
 pub front_failed : (u v w : SinkView) (s : List ℕ) (i : ℕ) → i < length s → HasPut u v (take i s) → SinkFailed v w → Rose u.faults w.faults × WritesFront u s w
@@ -95,4 +95,4 @@ front_failed u v w s i lt h f =
 
 -- there was no memory to write the rest
 pub front_kept : (u v w : SinkView) (s : List ℕ) (i : ℕ) → i < length s → HasPut u v (take i s) → w ≡ v → WritesFront u s w
-front_kept u v w s i lt h same = rw same (put_front u v s i lt h)
+front_kept u v w s i lt h same = rw same (written_front u v s i lt h)

@@ -2,7 +2,7 @@
 // An answer that isn't the wanted one is told as want of memory.
 ghost use Rattle.std.specs.Prelude.{IsTrue};
 ghost use Rattle.judged_port.specs.Judged.{port_of};
-ghost use Rattle.model_histories.specs.Port.{IsEndedOf};
+ghost use Rattle.model_histories.specs.Port.{MayCloseBy};
 
 use super::*;
 
@@ -151,7 +151,7 @@ fn may_close_by(
     sent: u64,
     cause: EndCause,
 ) -> bool
-    ensures { IsTrue result → IsEndedOf (port_of port.now) conn.now sent cause }
+    ensures { IsTrue result → MayCloseBy (port_of port.now) conn.now sent cause }
 {
     match port.may_close(alloc, conn.no(), sent, cause) {
         Ok(may) => may,

@@ -9,7 +9,7 @@ ghost use Rattle.model_authority.specs.Lists as lists;
 ghost use Rattle.model_authority.specs.Lists.{edit};
 ghost use Rattle.model_authority.specs.Statuses as statuses;
 
-use crate::exchanges::{change_leases, end_numbered_if_waiting, is_coalesced};
+use crate::exchanges::{change_leases, end_numbered_if_waiting, has_coalesced_lease};
 use net_base::{
     ConnNo, EndCause, ExchangeNo, Identity, Moment, NoMem, Origin, PlainValue, Proto, StreamNo,
     Target, Via,
@@ -161,7 +161,7 @@ fn alternatives_of_move(
 ) -> Result<(), NoMem>
     ensures { OnOk result (rows.new ≡ spec.alternatives_of_move e.now t.now rows.old) }
 {
-    if is_coalesced(e) {
+    if has_coalesced_lease(e) {
         return Ok(());
     }
     let origin = &e.ask.request.origin;
