@@ -190,6 +190,3 @@ fn take_back(tables: &mut Option<Tables>, place: OutLink, line: RetiredLink)
         tables.take_back(place, line);
     }
 }
-
-#[cfg(test)]
-mod tests;

@@ -112,6 +112,3 @@ fn behind(octets: &[u8], at: usize) -> &[u8]
 {
     &octets[at..]
 }
-
-#[cfg(test)]
-mod tests;
