@@ -24,6 +24,3 @@ pub use texts::{
     fields_text, hex_text, host_and_port, list_text, number_text, octets_text, origin_text,
     proto_text, security_text, streams_text, via_text, way_text,
 };
-
-#[cfg(test)]
-mod tests;
