@@ -9,6 +9,3 @@ mod counts;
 mod summary;
 
 pub use summary::write_summary;
-
-#[cfg(test)]
-mod tests;

@@ -6,8 +6,8 @@ ghost use Rattle.journal_text.specs.Lines as spec;
 
 use journal_lines::write_entry;
 use journal_words::number_text;
-use net_base::{NoMem, Octets};
 use model_values::{Entry, History};
+use net_base::{NoMem, Octets};
 use std::alloc::Global;
 
 /// Writes the journal of a list of entries: the line of the format, a line for each entry, and `end` with their number.

@@ -11,8 +11,8 @@ use crate::journal::end_line;
 use crate::writable::is_writable;
 use journal_lines::{read_words, write_entry};
 use journal_words::WordFault;
-use net_base::{NoMem, Octets, PlainValue};
 use model_values::{Entry, History};
+use net_base::{NoMem, Octets, PlainValue};
 use std::alloc::Global;
 
 /// A line without its LF, and what stands behind it.

@@ -8,11 +8,11 @@ ghost use Rattle.journal_words.specs.Writable as words;
 ghost use Rattle.journal_lines.specs.Writable as spec;
 
 use http_header::is_token;
+use model_values::{Act, Entry, Report};
 use net_base::{Field, Fields, Names, NoMem, PlainValue, Request, Response, is_name};
 use partition_keys::{
     AltUpdate, Alternative, Alternatives, PartitionKey, Site, SiteFault, read_site, write_site,
 };
-use model_values::{Act, Entry, Report};
 use std::alloc::Global;
 
 /// Whether the entry has a line that is read back as it.

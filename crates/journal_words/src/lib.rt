@@ -26,6 +26,3 @@ pub use texts::{
     proto_text, security_text, streams_text, via_text, way_text,
 };
 pub use word_laws::{choices_are_read_back, numbers_are_read_back, parts_are_read_back};
-
-#[cfg(test)]
-mod tests;

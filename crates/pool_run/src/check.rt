@@ -3,8 +3,8 @@ ghost use Rattle.std.specs.Prelude.{◌≡◌, ◌≢◌, ◌++◌, IfOk, length
 ghost use Rattle.scenario_walk.specs.declared.fault.ScenarioFault.TheVariants as faults;
 ghost use Rattle.pool_run.specs.Check as spec;
 
-use net_base::{NoMem, Octets};
 use model_values::ScriptCalls;
+use net_base::{NoMem, Octets};
 use scenario_text::{Scenario, ScenarioFault};
 use std::alloc::Global;
 

@@ -276,6 +276,3 @@ fn listen_on<L: Link>(alloc: Global, link: &mut L) -> Result<Heard, NoMem>
     }
     Ok(Heard::Quiet)
 }
-
-#[cfg(test)]
-mod tests;

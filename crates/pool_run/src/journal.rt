@@ -8,15 +8,15 @@ ghost use Rattle.scenario_text.specs.Scenarios as scenarios;
 use crate::serial::target_of;
 use journal_summary::write_summary;
 use journal_text::write_journal;
+use model_values::{
+    Act, Config, Entry, History, OrderMark, OrderMarks, Report, ShutReply, Submission, SubmitReply,
+    Way,
+};
 use net_base::{
     CallerNo, ConnNo, EndCause, ExchangeNo, Identity, Moment, NoMem, Octets, PlainValue, Request,
     Response, Scheme, StreamList, StreamNo,
 };
 use partition_keys::{AltUpdate, PartitionKey, Proof, Site};
-use model_values::{
-    Act, Config, Entry, History, OrderMark, OrderMarks, Report, ShutReply, Submission, SubmitReply,
-    Way,
-};
 use std::alloc::Global;
 
 /// The moment of a round, in milliseconds.
