@@ -37,9 +37,9 @@ may_move e _ = false
 -- each entry that makes an exchange wait again is one by which it may move
 abbrev pub MovesAreLawful : Type 0
 MovesAreLawful =
-    (config : Config) (h : List Entry) (n : ℕ) (e : Entry) (number : ℕ) (x y : Exchange) → Comes config h n e →
-    numbered number (state_at config h n).exchanges ≡ Some x → IsTrue (is_leased x.status) →
-    numbered number (state_at config h (n + 1)).exchanges ≡ Some y → IsTrue (is_waiting y.status) → IsTrue (may_move x e.act)
+    (config : Config) (h : List Entry) (n : ℕ) (x : Entry) (number : ℕ) (before behind : Exchange) → Comes config h n x →
+    numbered number (state_at config h n).exchanges ≡ Some before → IsTrue (is_leased before.status) →
+    numbered number (state_at config h (n + 1)).exchanges ≡ Some behind → IsTrue (is_waiting behind.status) → IsTrue (may_move before x.act)
 
 -- among the first n entries one hands the start of this stream to its connection
 abbrev pub WasHanded : List Entry → ℕ → ConnNo → StreamNo → Type 0
@@ -57,18 +57,19 @@ pub record WasRetried (config : Config) (h : List Entry) (n : ℕ) (number : Exc
   pub heard : List StreamNo
   pub is_closed : entry.act ≡ Closed conn sent cause heard
   pub stream : StreamNo
-  pub lease : OfExchange (state_at config h before) number (λ y. IsTrue (is_at conn stream y.status))
+  pub lease : OfExchange (state_at config h before) number (λ exchange. IsTrue (is_at conn stream exchange.status))
   pub handed : WasHanded h before conn stream
-  pub waits : OfExchange (state_at config h (before + 1)) number (λ y. IsTrue (is_waiting y.status))
+  pub waits : OfExchange (state_at config h (before + 1)) number (λ exchange. IsTrue (is_waiting exchange.status))
 
--- RFC 9110, section 9.2.2: the method isn't idempotent, octets of the answer were heard, or it was sent again once before
+-- RFC 9110, section 9.2.2: the method isn't idempotent, octets of the answer were heard, or it was sent again once before because a
+-- connection ended
 abbrev pub MayNotBeSentAgain : Config → List Entry → ℕ → ExchangeNo → Exchange → StreamNo → List StreamNo → Type 0
-MayNotBeSentAgain config h n number x r heard = (¬ IsTrue (is_idempotent_method x.ask.request.method)) ⊎ (Contains heard r ⊎ WasRetried config h n number)
+MayNotBeSentAgain config h n number exchange r heard = (¬ IsTrue (is_idempotent_method exchange.ask.request.method)) ⊎ (Contains heard r ⊎ WasRetried config h n number)
 
 -- an exchange whose connection ends, to which its start was handed, and that may not be sent again, has ended as lost at each state
 -- behind that
 abbrev pub LostExchangesStayLost : Type 0
 LostExchangesStayLost =
-    (config : Config) (h : List Entry) (n m : ℕ) (e : Entry) (number : ExchangeNo) (x : Exchange) (c : ConnNo) (sent : ℕ) (cause : EndCause) (heard : List StreamNo) (r : StreamNo) →
-    Comes config h n e → e.act ≡ Closed c sent cause heard → numbered number.0 (state_at config h n).exchanges ≡ Some x → IsTrue (is_at c r x.status) → WasHanded h n c r →
-    MayNotBeSentAgain config h n number x r heard → n < m → OfExchange (state_at config h m) number (λ y. y.status ≡ Ended (outcome.Lost c cause))
+    (config : Config) (h : List Entry) (n m : ℕ) (x : Entry) (number : ExchangeNo) (exchange : Exchange) (c : ConnNo) (sent : ℕ) (cause : EndCause) (heard : List StreamNo) (r : StreamNo) →
+    Comes config h n x → x.act ≡ Closed c sent cause heard → numbered number.0 (state_at config h n).exchanges ≡ Some exchange → IsTrue (is_at c r exchange.status) → WasHanded h n c r →
+    MayNotBeSentAgain config h n number exchange r heard → n < m → OfExchange (state_at config h m) number (λ later. later.status ≡ Ended (outcome.Lost c cause))

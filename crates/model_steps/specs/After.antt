@@ -146,11 +146,11 @@ after_assign s e c r by =
     }
 
 abbrev pub wanted_connection : Exchange → ExchangeNo → Target → Moment → Connection
-wanted_connection x e t now = new_connection (record { key = x.ask.key; credentials = x.ask.credentials; origin = x.ask.request.origin; target = t }) (Some e) now
+wanted_connection exchange e t now = new_connection (record { key = exchange.ask.key; credentials = exchange.ask.credentials; origin = exchange.ask.request.origin; target = t }) (Some e) now
 
 abbrev pub after_want_of : AbstractPool → ExchangeNo → Target → Option Exchange → AbstractPool
 after_want_of s e t None = s
-after_want_of s e t (Some x) = record s { connections = s.connections ++ wanted_connection x e t s.latest ∷ [] }
+after_want_of s e t (Some exchange) = record s { connections = s.connections ++ wanted_connection exchange e t s.latest ∷ [] }
 
 unfoldable pub after_want : AbstractPool → ExchangeNo → Target → AbstractPool
 after_want s e t = after_want_of s e t (numbered e.0 s.exchanges)
@@ -185,4 +185,4 @@ after_act s who (Evict c) = after_evict s c
 
 -- the state that the entry leaves
 unfoldable pub after : AbstractPool → Entry → AbstractPool
-after s e = after_act (noted s e.moment) e.who e.act
+after s x = after_act (noted s x.moment) x.who x.act

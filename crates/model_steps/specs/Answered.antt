@@ -23,11 +23,12 @@ use Rattle.model_values.specs.declared.state.Exchange.{Exchange}
 -- ---- its exchange
 
 -- RFC 9110, section 15.5.20, and of an alternative RFC 7838, section 6, whatever the method is: the other side isn't the
--- authority for it, and the connection doesn't go to the exchange's origin itself
+-- authority for it, and the connection doesn't go to the exchange's origin itself. That a 421 from the origin itself is an
+-- answer as any other is this project's own
 abbrev pub is_misdirected : Response → Exchange → Bool
 is_misdirected response e = response.status == 421 && is_leased_elsewhere e.status
 
--- where it was coalesced, it goes to its origin itself from now on
+-- where it was coalesced, it takes only connections to its origin itself from now on, which is this project's own
 abbrev pub as_misdirected : Exchange → Exchange
 as_misdirected e = record e { direct_only = e.direct_only || has_coalesced_lease e.status }
 
@@ -44,7 +45,8 @@ lease_at s conn r = find (λ e. is_at conn r e.status) s.exchanges
 
 -- ---- its connection
 
--- it isn't coalesced again for the origin of an exchange that it misdirected
+-- it isn't coalesced again for the origin of an exchange that it misdirected, whatever the way was. That this holds for each
+-- later exchange of that origin is this project's own
 abbrev pub excluding_misdirected : Response → Option Exchange → Connection → Connection
 excluding_misdirected response None c = c
 excluding_misdirected response (Some e) c = if is_misdirected response e then excluding e.ask.request.origin c else c
@@ -55,13 +57,13 @@ answered_connection now r response keep lease c = after_answer now r keep (exclu
 
 -- ---- the alternatives
 
--- RFC 7838, section 6: an alternative that misdirected an exchange is none. One that is coalesced says nothing of the
--- exchange's own
+-- RFC 7838, section 6: an alternative that misdirected an exchange is none. A 421 over a coalesced connection says nothing of
+-- the exchange's own alternatives
 abbrev pub without_misdirecting : Exchange → Target → List AltRow → List AltRow
 without_misdirecting e t rows = if has_coalesced_lease e.status then rows else dropped_alternatives e.ask.key e.ask.request.origin t rows
 
 -- RFC 7838, section 3, and RFC 8164, section 2.3: an answer that ends its exchange sets the origin's list, and then its
--- proof counts
+-- proof counts. That a 421 from the origin itself brings neither (RFC 7838, section 6) is the duty of the worker that reports it
 abbrev pub with_words_of : Exchange → Target → AltUpdate → Proof → List AltRow → List AltRow
 with_words_of e t alt proof rows =
     proven_alternatives e.ask.key e.ask.request.origin t proof (updated_alternatives e.ask.key e.ask.request.origin alt rows)

@@ -1,6 +1,6 @@
--- What a GOAWAY does (RFC 9113, section 6.8). The peer does nothing for the streams above the last one, and what isn't
--- handed yet isn't sent: their exchanges wait again. The connection takes no further exchange, and closes where it carries
--- nothing.
+-- What a GOAWAY does (RFC 9113, section 6.8), whatever its code is. The peer does nothing for the streams above the last one, and
+-- what isn't handed yet isn't sent, since no further stream may be opened: their exchanges wait again. The connection takes no
+-- further exchange, and closes where it carries nothing. A further GOAWAY may name a later last stream, which brings nothing back.
 use Rattle.std.specs.Prelude.{◌==◌, ◌&&◌, ◌||◌, not, nat_lt, Bool, false, if◌then◌else◌, map}
 use Rattle.net_base.specs.declared.numbers.ConnNo.{ConnNo}
 use Rattle.net_base.specs.declared.numbers.StreamNo.{StreamNo}

@@ -19,12 +19,12 @@ use Rattle.model_values.specs.declared.state.Exchange.{Exchange}
 use Rattle.model_values.specs.declared.state.Status.{Status}
 use Rattle.model_values.specs.declared.state.Status.TheVariants.{Waiting, Leased, Ended}
 
--- RFC 9110, section 9.2.2, and for HTTP/1.1 RFC 9112, section 9.3.1: nothing was heard, the method is idempotent, and
--- it is the first time
+-- RFC 9110, section 9.2.2, and for HTTP/1.1 RFC 9112, section 9.3.1: by its worker's word nothing was heard, the method is
+-- idempotent, and it is the first time. The standards leave more to the client
 abbrev pub may_retry : Exchange → StreamNo → List StreamNo → Bool
 may_retry e stream heard = not (list_any (is_stream stream) heard) && is_idempotent_method e.ask.request.method && not e.retried
 
--- it wasn't handed, so it wasn't sent, or it may be sent again
+-- it wasn't handed, so it was never applied (RFC 9110, section 9.2.2), or it may be sent again
 abbrev pub may_be_sent : Exchange → List StreamNo → Status → Bool
 may_be_sent e heard Waiting = false
 may_be_sent e heard (Leased conn stream by handed) = not handed || may_retry e stream heard

@@ -24,7 +24,7 @@ ended_at conn r how e = if is_at conn r e.status then ended_by how e else e
 abbrev pub after_refused : AbstractPool → ConnNo → StreamNo → AbstractPool
 after_refused s conn r = record s { exchanges = map (refused conn r) s.exchanges; connections = edit conn.0 (without_stream s.latest r) s.connections }
 
--- RFC 9113, section 6.4: the peer reset the stream
+-- RFC 9113, section 6.4: the peer reset the stream. That a reset with REFUSED_STREAM is reported as that is its worker's duty
 abbrev pub after_reset : AbstractPool → ConnNo → StreamNo → ℕ → AbstractPool
 after_reset s conn r code =
     record s { exchanges = map (ended_at conn r (outcome.Reset code)) s.exchanges; connections = edit conn.0 (without_stream s.latest r) s.connections }
