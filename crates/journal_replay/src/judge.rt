@@ -7,9 +7,9 @@ ghost use Rattle.journal_replay.specs.Pairs.{IsVerdict, RefusesPair, RefusesFron
 use crate::pairs::parts_of;
 use crate::verdict::{ReplayFault, Verdict};
 use journal_text::{JournalFault, read_journal};
+use model_values::{Config, History};
 use net_base::NoMem;
 use pool_model::first_bad;
-use model_values::{Config, History};
 use scenario_text::{Scenario, ScenarioFault, read_scenario};
 use std::alloc::Global;
 

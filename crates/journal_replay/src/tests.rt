@@ -1,139 +1,137 @@
-use super::*;
-use net_base::{NoMem, Octets};
-use scenario_text::ScenarioFault;
+// Histories that were made by hand, line by line as a journal has them, and what may not stand in the place of an entry.
+
+use journal_text::read_journal;
+use model_values::{Config, History};
+use net_base::{NoMem, Octets, PlainValue};
+use pool_model::first_bad;
 use std::alloc::Global;
 use std::test::Fail;
 
-/// A pair, and what it is judged to be or why it is refused.
-struct Case {
-    pair: &'static [u8],
-    wanted: &'static str,
+mod alternatives;
+mod ends;
+mod one_get;
+mod sharing;
+mod streams;
+
+/// The limits where nothing else is said.
+const LIMITS: Config = Config {
+    per_group: 6,
+    total: 32,
+    streams: 100,
+    background: 2,
+    last_stream: 2147483647,
+    submissions: 5000,
+};
+
+/// Courses of entries that begin alike. A line is that of the next entry. Behind `! ` it is one that may not come next, and
+/// at `=` the entries so far are a history.
+struct Courses {
+    config: Config,
+    front: &'static str,
+    behind: &'static [&'static str],
 }
 
-const REFUSED: [Case; 6] = [
-    Case {
-        pair: b"",
-        wanted: "no journal",
-    },
-    Case {
-        pair: b"{\"peers\":[],\"channels\":[]}\npoolrun 1\nend 0\n",
-        wanted: "no journal",
-    },
-    Case {
-        pair: b"{\"peers\":[],\"channels\":[]}\n--",
-        wanted: "no journal",
-    },
-    Case {
-        pair: b"{\"peers\":[],\"channels\":[]}\n--\r\npoolrun 1\nend 0\n",
-        wanted: "no journal",
-    },
-    Case {
-        pair: b"--\npoolrun 1\nend 0\n",
-        wanted: "NotJson",
-    },
-    Case {
-        pair: b"{\"x\":1}\n--\n",
-        wanted: "Unsupported",
-    },
-];
-
-const JUDGED: [Case; 5] = [
-    Case {
-        pair: b"{\"peers\":[],\"channels\":[]}\n--\npoolrun 1\nend 0\n",
-        wanted: "legal 0",
-    },
-    Case {
-        pair: b"{\"config\":{\"per_group\":1,\"total\":32,\"streams\":2,\"background\":2,\"last_stream\":1,\"submissions\":60},\"peers\":[],\"channels\":[]}\n--\npoolrun 1\n11 999 shutdown = noted\n11 999 shutdown = noted\nend 2\n",
-        wanted: "illegal 3",
-    },
-    Case {
-        pair: b"{\"config\":{\"per_group\":2,\"total\":5,\"streams\":2,\"background\":1,\"last_stream\":3,\"submissions\":5000},\"peers\":[],\"channels\":[]}\n--\npoolrun 1\n300117 1 submit https://top.test + 3 fore - plain GET https://a.test:443 /x?y - - = closed 1\nend 1\n",
-        wanted: "illegal 2",
-    },
-    Case {
-        pair: b"{\"config\":{\"per_group\":1,\"total\":1,\"streams\":1,\"background\":0,\"last_stream\":3,\"submissions\":60},\"peers\":[],\"channels\":[]}\n--\npoolrun 1\n1 1 submit https://top.test + 0 fore - plain GET https://x.b.test:443 / x:79,empty: - = accepted 1\n1 0 want 1 1 x.b.test:443 secure direct\n1 1 submit https://top.test + 7 fore - plain GET http://x.b.test:80 / x:79 - = accepted 2\n1 105 seek dial 1 x.b.test:443 secure direct\n11 105 opened 1 32 secure h2 00000000000000000000000000000000 x.b.test,*.b.test,a.test\n11 0 assign 1 1 1 direct\n11 999 shutdown = noted\n11 105 orders 1 32 = close\n21 105 goaway 1 32 0\n31 105 closed 1 32 fault -\nend 10\nmore\n",
-        wanted: "line 5",
-    },
-    Case {
-        pair: b"{\"config\":{\"per_group\":1,\"total\":2,\"streams\":1,\"background\":1,\"last_stream\":2,\"submissions\":10},\"peers\":[],\"channels\":[]}\n--\npoolrun 1\n5 ",
-        wanted: "truncated",
-    },
-];
-
-/// The journal of one GET behind its scenario, up to the line by which its exchange gets a stream.
-const BEFORE: &[u8] =
-    b"{\"peers\":[{\"host\":\"a.test\",\"port\":80,\"answers\":[{\"path\":\"/\",\"text\":\"ok\"}]}],\n\"channels\":[{\"calls\":[{\"call\":\"submit\",\"url\":\"http://a.test/\"}]}]}\n--\npoolrun 1\n0 1 submit https://top.test + 3 fore - plain GET http://a.test:80 / - - = accepted 1\n0 0 want 1 1 a.test:80 clear direct\n0 101 seek = dial 1 a.test:80 clear direct\n0 101 opened 1 0 clear h1 00000000000000000000000000000000 -\n";
-
-/// That line.
-const ASSIGN: &[u8] = b"0 0 assign 1 1 1 direct\n";
-
-/// The lines behind it.
-const BEHIND: &[u8] =
-    b"10 101 orders 1 0 = start 1 1\n20 101 answered 1 32 1 keep 200 content-length:32 6f6b - none none\n50 999 shutdown = noted\n50 101 orders 1 32 = close\n50 101 closed 1 32 done -\n";
-
-/// What is said of it with so many such lines and this end.
-fn example(alloc: Global, assigns: usize, end: &[u8]) -> Result<String, NoMem> {
-    let mut pair = Octets::build(alloc, BEFORE)?;
-    for _ in 0..assigns {
-        pair.extend(alloc, ASSIGN)?;
-    }
-    pair.extend(alloc, BEHIND)?;
-    pair.extend(alloc, end)?;
-    said(alloc, pair.as_slice())
-}
-
-fn said(alloc: Global, pair: &[u8]) -> Result<String, NoMem> {
-    match replay(alloc, pair) {
-        Ok(Verdict::Legal(n)) => Ok(format!(in alloc; "legal {n}")?),
-        Ok(Verdict::Illegal(line)) => Ok(format!(in alloc; "illegal {line}")?),
-        Err(ReplayFault::NoMem) => Err(NoMem),
-        Err(ReplayFault::NoJournal) => Ok(String::from_str(alloc, "no journal")?),
-        Err(ReplayFault::Scenario(why)) => Ok(String::from_str(alloc, word_of(&why))?),
-        Err(ReplayFault::Line(n)) => Ok(format!(in alloc; "line {n}")?),
-        Err(ReplayFault::Truncated) => Ok(String::from_str(alloc, "truncated")?),
-    }
-}
-
-fn word_of(why: &ScenarioFault) -> &'static str {
-    match why {
-        ScenarioFault::NoMem => "NoMem",
-        ScenarioFault::NotJson => "NotJson",
-        ScenarioFault::Unsupported(_) => "Unsupported",
-        ScenarioFault::BadValue(_) => "BadValue",
-        ScenarioFault::TooMany(_, _) => "TooMany",
-    }
-}
-
-#[test]
-fn what_is_no_pair_is_refused(rt: HostRuntime) -> Result<(), Fail> {
-    let alloc = rt.alloc();
-    for case in &REFUSED {
-        let line = said(alloc, case.pair)?;
-        assert_eq!(rt; line.as_bytes(), case.wanted.as_bytes());
+/// Adds the entry of a line.
+fn add(alloc: Global, h: &mut History, line: &str) -> Result<(), NoMem> {
+    let mut text = Octets::build(alloc, b"poolrun 1\n")?;
+    text.extend(alloc, line.as_bytes())?;
+    text.extend(alloc, b"\nend 1\n")?;
+    let Ok(one) = read_journal(alloc, text.as_slice()) else {
+        return Err(NoMem);
+    };
+    for e in one.as_slice() {
+        h.push(alloc, e.copy(alloc)?)?;
     }
     Ok(())
 }
 
-#[test]
-fn pairs_are_judged(rt: HostRuntime) -> Result<(), Fail> {
-    let alloc = rt.alloc();
-    for case in &JUDGED {
-        let line = said(alloc, case.pair)?;
-        assert_eq!(rt; line.as_bytes(), case.wanted.as_bytes());
+/// Whether the entry of a line may not come next.
+fn is_bad(alloc: Global, config: &Config, h: &History, line: &str) -> Result<bool, NoMem> {
+    let mut tried = h.copy(alloc)?;
+    add(alloc, &mut tried, line)?;
+    Ok(first_bad(alloc, config, &tried)? == Some(tried.len() as u64))
+}
+
+/// Whether a line says what is so behind these entries. An entry is added.
+fn holds(alloc: Global, config: &Config, h: &mut History, line: &str) -> Result<bool, NoMem> {
+    if line == "=" {
+        return Ok(first_bad(alloc, config, h)?.is_none());
     }
+    match line.strip_prefix("! ") {
+        Some(other) => is_bad(alloc, config, h, other),
+        None => {
+            add(alloc, h, line)?;
+            Ok(true)
+        }
+    }
+}
+
+/// The first line of a part that doesn't hold.
+fn wrong_in(
+    alloc: Global,
+    config: &Config,
+    h: &mut History,
+    part: &'static str,
+) -> Result<Option<&'static str>, NoMem> {
+    for line in part.lines() {
+        if !holds(alloc, config, h, line)? {
+            return Ok(Some(line));
+        }
+    }
+    Ok(None)
+}
+
+/// The first line of courses that begin alike that doesn't hold.
+fn wrong_of(alloc: Global, courses: &Courses) -> Result<Option<&'static str>, NoMem> {
+    for behind in courses.behind {
+        let mut h = History::new();
+        for part in [courses.front, *behind] {
+            let wrong = wrong_in(alloc, &courses.config, &mut h, part)?;
+            if wrong.is_some() {
+                return Ok(wrong);
+            }
+        }
+    }
+    Ok(None)
+}
+
+/// The first line of the courses that doesn't hold.
+fn first_wrong(alloc: Global, all: &[Courses]) -> Result<Option<&'static str>, NoMem> {
+    for courses in all {
+        let wrong = wrong_of(alloc, courses)?;
+        if wrong.is_some() {
+            return Ok(wrong);
+        }
+    }
+    Ok(None)
+}
+
+#[test]
+fn one_get_goes_over_one_connection(rt: HostRuntime) -> Result<(), Fail> {
+    assert_eq!(rt; first_wrong(rt.alloc(), &one_get::COURSES)?, None);
     Ok(())
 }
 
 #[test]
-fn one_get_is_legal_with_its_assign_once(rt: HostRuntime) -> Result<(), Fail> {
-    let alloc = rt.alloc();
-    let legal = example(alloc, 1, b"end 10\nsubmitted 1\n")?;
-    assert_eq!(rt; legal.as_bytes(), b"legal 10".as_slice());
-    let twice = example(alloc, 2, b"end 11\n")?;
-    assert_eq!(rt; twice.as_bytes(), b"illegal 7".as_slice());
-    let without = example(alloc, 0, b"end 9\n")?;
-    assert_eq!(rt; without.as_bytes(), b"illegal 6".as_slice());
-    let cut = example(alloc, 1, b"end 1")?;
-    assert_eq!(rt; cut.as_bytes(), b"truncated".as_slice());
+fn connections_are_shared_by_right(rt: HostRuntime) -> Result<(), Fail> {
+    assert_eq!(rt; first_wrong(rt.alloc(), &sharing::COURSES)?, None);
+    Ok(())
+}
+
+#[test]
+fn streams_are_given_and_given_again(rt: HostRuntime) -> Result<(), Fail> {
+    assert_eq!(rt; first_wrong(rt.alloc(), &streams::COURSES)?, None);
+    Ok(())
+}
+
+#[test]
+fn alternatives_break_and_come_back(rt: HostRuntime) -> Result<(), Fail> {
+    assert_eq!(rt; first_wrong(rt.alloc(), &alternatives::COURSES)?, None);
+    Ok(())
+}
+
+#[test]
+fn exchanges_end_and_connections_make_room(rt: HostRuntime) -> Result<(), Fail> {
+    assert_eq!(rt; first_wrong(rt.alloc(), &ends::COURSES)?, None);
     Ok(())
 }

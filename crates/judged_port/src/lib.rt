@@ -2,8 +2,8 @@
 //! history only where `first_bad` finds nothing in it; else it answers as if memory had been wanting.
 //!
 //! It is plain and slow, and for one caller: it shows that each of the twelve calls of a `PoolPort` can keep what the
-//! port promises, and tests compare what stands behind a port with it. What it may be asked is this project's own, and so
-//! are its replies.
+//! port promises, and its tests that each is answered. What it may be asked is this project's own, and so are its
+//! replies.
 #![tactic(auto)]
 
 mod allowed;

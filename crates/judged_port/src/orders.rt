@@ -6,8 +6,8 @@ ghost use Rattle.judged_port.specs.Judged.{one_of};
 ghost use Rattle.model_histories.specs.Reading.{accepted_by, dialed_by, order_of, start_of, submissions_of, targets_of};
 ghost use Rattle.model_authority.specs.Lists as lists;
 
-use net_base::{ConnNo, ExchangeNo, NoMem, StreamNo, Target, dressed};
 use model_values::{Act, Entry, Order, OrderMark, Orders, Submission, SubmitReply};
+use net_base::{ConnNo, ExchangeNo, NoMem, StreamNo, Target, dressed};
 use std::alloc::Global;
 
 /// The submission that the act accepts.

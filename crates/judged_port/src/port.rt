@@ -13,12 +13,7 @@ use crate::orders::orders_by;
 use crate::replies::{
     cancel_reply, change_reply, preconnect_reply, resolved_reply, shut_reply, submit_reply,
 };
-use net_base::{
-    Addresses, CallerNo, ConnNo, EndCause, ExchangeNo, Moment, NoMem, Octets, Origin, PlainValue,
-    StreamList,
-};
-use partition_keys::PartitionKey;
-use pool_model::{has_room_for_more, state_of};
+use model_authority::lists::numbered;
 use model_histories::PoolPort;
 use model_histories::legal::{is_late, next_dial};
 use model_steps::calls::note;
@@ -27,7 +22,12 @@ use model_values::{
     OrderMarks, OrdersReply, PreconnectReply, Report, ResolvedReply, Seek, ShutReply, Submission,
     SubmitReply, TicketKept,
 };
-use model_authority::lists::numbered;
+use net_base::{
+    Addresses, CallerNo, ConnNo, EndCause, ExchangeNo, Moment, NoMem, Octets, Origin, PlainValue,
+    StreamList,
+};
+use partition_keys::PartitionKey;
+use pool_model::{has_room_for_more, state_of};
 use std::alloc::Global;
 use std::marker::Model;
 

@@ -3,8 +3,7 @@ ghost use Rattle.std.specs.Prelude.{◌≡◌, ◌<◌, ◌^◌, length};
 ghost use Rattle.model_histories.specs.Replies as spec;
 ghost use Rattle.model_authority.specs.Ways as ways;
 
-use net_base::{Addresses, CallerNo, ExchangeNo, Origin};
-use partition_keys::PartitionKey;
+use model_authority::statuses::has_ended;
 use model_histories::replies::{is_bad_probe, own_exchange};
 use model_settling::counts::{count_in_group, count_total};
 use model_settling::room::planned;
@@ -13,7 +12,8 @@ use model_values::{
     AbstractPool, CancelReply, ChangeReply, PreconnectReply, ResolvedReply, ShutReply, Submission,
     SubmitReply,
 };
-use model_authority::statuses::has_ended;
+use net_base::{Addresses, CallerNo, ExchangeNo, Origin};
+use partition_keys::PartitionKey;
 
 /// The reply to a submission.
 pub(crate) fn submit_reply(s: &AbstractPool, ask: &Submission) -> SubmitReply {

@@ -19,6 +19,3 @@ pub use model_values::{
     ScriptCalls, Scripts, Seek, ShutReply, Status, Submission, SubmitReply, TicketKept, Way,
 };
 pub use state::{go_on, state_of};
-
-#[cfg(test)]
-mod tests;

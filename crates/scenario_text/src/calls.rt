@@ -6,8 +6,8 @@ ghost use Rattle.scenario_walk.specs.Faults.{Gives, each_behind, list_behind};
 ghost use Rattle.scenario_walk.specs.Values.{word};
 
 use crate::submissions::{built, credentials, key, submission, url_in};
-use net_base::{Fields, Moment, NoMem, Octets};
 use model_values::{ScriptCall, ScriptCalls};
+use net_base::{Fields, Moment, NoMem, Octets};
 use scenario_walk::{
     Address, At, Host, ListOf, Reads, ScenarioFault, Whole, an_object, bad, below_item, items,
     only, required, text_of,

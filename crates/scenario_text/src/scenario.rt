@@ -8,8 +8,8 @@ ghost use Rattle.scenario_text.specs.Scenarios.{IsScenario, RefusesScenario};
 use crate::calls::ChannelObject;
 use crate::peers::PeerObject;
 use edge_traits::NetKind;
-use net_base::{Answer, AnswerBody, NoMem, Octets, Peer, PeerBook};
 use model_values::{Config, ScriptCall, ScriptCalls, Scripts};
+use net_base::{Answer, AnswerBody, NoMem, Octets, Peer, PeerBook};
 use scenario_walk::{
     At, ListOf, NetWord, Reads, ScenarioFault, Whole, only, optional, required, too_many,
 };

@@ -6,9 +6,9 @@ ghost use Rattle.scenario_text.specs.Calls as spec;
 ghost use Rattle.scenario_walk.specs.Faults.{Gives, GivesText, required};
 ghost use Rattle.scenario_walk.specs.Values.{text};
 
+use model_values::Submission;
 use net_base::{BuildFault, Fields, Moment, NoMem, Octets, Request, Scheme};
 use partition_keys::PartitionKey;
-use model_values::Submission;
 use scenario_walk::{
     AnyListOf, At, Flag, Given, MomentOrNone, PlainField, ScenarioFault, Site, Text, TextWithin,
     Whole, bad, below, optional, text_of,
