@@ -15,10 +15,11 @@ use Rattle.partition_keys.specs.declared.group.GroupKey.{GroupKey}
 use Rattle.model_changes.specs.Connections.{closing, without_stream, suits, opened_with, refused_with, after_opened, with_limit, after_answer, excluding, after_too_large, after_goaway, gone}
 use Rattle.model_changes.specs.Moves.{may_move}
 use Rattle.model_histories.proofs.EditLemmas.{edit_here, edit_other}
-use Rattle.model_histories.proofs.KeepLemmas.{busy_up, dialing_only, Keeps, keeps_refl, keeps_trans, keeps_phase, keeps_up, keeps_without_stream, keeps_after_answer, keeps_after_too_large, keeps_after_goaway}
+use Rattle.model_histories.proofs.KeepLemmas.{Keeps, keeps_refl, keeps_trans, keeps_phase, keeps_up, keeps_without_stream, keeps_after_answer, keeps_after_too_large, keeps_after_goaway}
 use Rattle.model_histories.specs.Legal.{MayReport, MayClose}
 use Rattle.model_histories.specs.Port.{is_opening_report}
 use Rattle.model_steps.specs.After.{after_useless, after_open_of, after_open, lease_at, excluding_moved, connection_after_answer, after_answered, after_leases, after_alt_seen, after_report, is_dial_failed, after_failed_dial, after_closed}
+use Rattle.model_authority.proofs.PhaseLemmas.{excludes}
 use Rattle.model_authority.specs.Lists.{numbered, edit}
 use Rattle.model_authority.specs.Statuses.{is_dialing, is_closing, is_gone, is_busy, is_opening}
 use Rattle.model_values.specs.declared.entry.Act.{Act}
@@ -81,8 +82,7 @@ worked_refused : (id : Identity) (c : Connection) → is_dialing c.phase ≡ tru
 unfolding closing
 worked_refused id c dialing =
     let shown : Connection = record c { identity = Some id } in
-    let only = dialing_only c.phase dialing in
-    let stays : (is_closing c.phase || is_gone c.phase) ≡ false = or_from (is_closing c.phase) (is_gone c.phase) only.2 only.3 in
+    let stays : (is_closing c.phase || is_gone c.phase) ≡ false = excludes is_dialing (λ p. is_closing p || is_gone p) refl c.phase dialing in
     cond_both (is_closing c.phase || is_gone c.phase) shown (record shown { phase = Closing; orders = mark.Close ∷ [] }) (MayWorkBy c)
     (λ t. absurd cc) (λ f. record { caller = refl; sent = refl; started = refl; busy = refl })
 
@@ -133,19 +133,19 @@ worked_report s conn act (report.Limit n) x is_item h =
     one_edit MayWorkBy conn.0 (with_limit n) s.connections x is_item (worked_keeps x (with_limit n x) (keeps_phase x (with_limit n x) refl refl refl refl) h)
 worked_report s conn act (report.Answered r response keep alt proof) x is_item h =
     let f : Connection → Connection = connection_after_answer s conn r keep act in
-    one_edit MayWorkBy conn.0 f s.connections x is_item (worked_keeps x (f x) (keeps_answered s conn r keep act x (busy_up x.phase h).2) h)
+    one_edit MayWorkBy conn.0 f s.connections x is_item (worked_keeps x (f x) (keeps_answered s conn r keep act x (excludes is_busy is_opening refl x.phase h)) h)
 worked_report s conn act (report.Refused r) x is_item h =
     one_edit MayWorkBy conn.0 (without_stream s.latest r) s.connections x is_item (worked_keeps x (without_stream s.latest r x) (keeps_without_stream s.latest r x) h)
 worked_report s conn act (report.Reset r code) x is_item h =
     one_edit MayWorkBy conn.0 (without_stream s.latest r) s.connections x is_item (worked_keeps x (without_stream s.latest r x) (keeps_without_stream s.latest r x) h)
 worked_report s conn act (report.TooLarge r) x is_item h =
     let f : Connection → Connection = after_too_large s.latest r in
-    one_edit MayWorkBy conn.0 f s.connections x is_item (worked_keeps x (f x) (keeps_after_too_large s.latest r x (busy_up x.phase h).2) h)
+    one_edit MayWorkBy conn.0 f s.connections x is_item (worked_keeps x (f x) (keeps_after_too_large s.latest r x (excludes is_busy is_opening refl x.phase h)) h)
 worked_report s conn act (report.StreamClosed r) x is_item h =
     one_edit MayWorkBy conn.0 (without_stream s.latest r) s.connections x is_item (worked_keeps x (without_stream s.latest r x) (keeps_without_stream s.latest r x) h)
 worked_report s conn act (report.Goaway last) x is_item h =
     let f : Connection → Connection = after_goaway s.latest conn s.exchanges last in
-    one_edit MayWorkBy conn.0 f s.connections x is_item (worked_keeps x (f x) (keeps_after_goaway s.latest conn s.exchanges last x (busy_up x.phase h).2) h)
+    one_edit MayWorkBy conn.0 f s.connections x is_item (worked_keeps x (f x) (keeps_after_goaway s.latest conn s.exchanges last x (excludes is_busy is_opening refl x.phase h)) h)
 worked_report s conn act (report.AltSeen origin alt) x is_item h =
     subst (λ o. IsOneEdit MayWorkBy conn.0 x s.connections (after_alt_seen s origin alt o).connections) (sym is_item)
     (one_none MayWorkBy conn.0 s.connections x is_item (worked_keeps x x (keeps_refl x) h))

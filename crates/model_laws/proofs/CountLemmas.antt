@@ -14,7 +14,7 @@ use Rattle.net_base.specs.declared.target.Via.{Via}
 use Rattle.net_base.specs.declared.target.Via.TheVariants as via
 use Rattle.partition_keys.specs.declared.group.GroupKey.{GroupKey}
 use Rattle.model_changes.specs.Connections.{closing, without_stream, without_start, without_exchange, new_connection, dialing_by, after_opened, with_start, with_taken, with_limit, after_too_large, after_goaway, gone, after_shutdown, with_sent}
-use Rattle.model_laws.proofs.PresentLemmas.{wanted_there, dialing_there, open_there, busy_there, out_phase, out_there, out_closing, out_without_stream, out_without_start, out_without_exchange, out_with_start, out_opened, out_after_too_large, out_after_goaway, out_gone, out_after_shutdown, out_answered, AddsNone, adds_same, adds_trans, adds_edit, adds_map}
+use Rattle.model_laws.proofs.PresentLemmas.{out_phase, out_there, out_closing, out_without_stream, out_without_start, out_without_exchange, out_with_start, out_opened, out_after_too_large, out_after_goaway, out_gone, out_after_shutdown, out_answered, AddsNone, adds_same, adds_trans, adds_edit, adds_map}
 use Rattle.model_laws.proofs.RoomLemmas.{AreWithin, within_adds, within_further, room_below, planned_within}
 use Rattle.model_histories.proofs.EditLemmas.{edit_here}
 use Rattle.model_histories.proofs.RunLemmas.{config-after}
@@ -26,8 +26,9 @@ use Rattle.model_settling.specs.Room.{is_eligible, has_room, planned}
 use Rattle.model_settling.specs.Settling.{IsDue, IsAssign, IsWant, can_use, can_open}
 use Rattle.model_steps.specs.After.{noted, after_submit, released_lease, released_by, released, after_cancel, after_reprioritise, after_preconnect, after_resolved, after_network, after_shut, after_dial, after_orders, after_useless, after_open_of, after_open, connection_after_answer, after_answered, after_leases, after_alt_seen, after_report, is_dial_failed, after_failed_dial, after_closed, after_expire, after_lapse, after_assign, wanted_connection, after_want_of, after_want, after_evict, sent_noted, after_act, after}
 use Rattle.model_authority.proofs.NumberLemmas.{value_and, passing}
+use Rattle.model_authority.proofs.PhaseLemmas.{excludes}
 use Rattle.model_authority.specs.Lists.{numbered, edit}
-use Rattle.model_authority.specs.Statuses.{is_wanted, is_open, is_gone}
+use Rattle.model_authority.specs.Statuses.{is_wanted, is_dialing, is_open, is_gone, is_busy}
 use Rattle.model_authority.specs.Ways.{target_of, group_of, group_for, has_capacity, has_way, is_usable}
 use Rattle.model_values.specs.declared.config.Config.{Config}
 use Rattle.model_values.specs.declared.entry.Act.{Act}
@@ -79,15 +80,15 @@ there_item cs c x is_item there y e = let same : x ≡ y = cc in subst (λ (z : 
 
 -- what is reported of is dialed, or was opened and isn't gone
 reported_there : (c : Connection) (r : Report) → MayReport c r → is_gone c.phase ≡ false
-reported_there c (report.Opened id) h = dialing_there c.phase h
-reported_there c (report.Limit n) h = busy_there c.phase h
-reported_there c (report.Answered r response keep alt proof) h = busy_there c.phase h.0
-reported_there c (report.Refused r) h = busy_there c.phase h.0
-reported_there c (report.Reset r code) h = busy_there c.phase h.0
-reported_there c (report.TooLarge r) h = busy_there c.phase h.0
-reported_there c (report.StreamClosed r) h = busy_there c.phase h.0
-reported_there c (report.Goaway last) h = busy_there c.phase h
-reported_there c (report.AltSeen origin alt) h = busy_there c.phase h
+reported_there c (report.Opened id) h = excludes is_dialing is_gone refl c.phase h
+reported_there c (report.Limit n) h = excludes is_busy is_gone refl c.phase h
+reported_there c (report.Answered r response keep alt proof) h = excludes is_busy is_gone refl c.phase h.0
+reported_there c (report.Refused r) h = excludes is_busy is_gone refl c.phase h.0
+reported_there c (report.Reset r code) h = excludes is_busy is_gone refl c.phase h.0
+reported_there c (report.TooLarge r) h = excludes is_busy is_gone refl c.phase h.0
+reported_there c (report.StreamClosed r) h = excludes is_busy is_gone refl c.phase h.0
+reported_there c (report.Goaway last) h = excludes is_busy is_gone refl c.phase h
+reported_there c (report.AltSeen origin alt) h = excludes is_busy is_gone refl c.phase h
 
 adds_open : (s : AbstractPool) (conn : ConnNo) (id : Identity) → IsThere s.connections conn → AddsNone s.connections (after_open s conn id).connections
 unfolding after_open
@@ -154,7 +155,7 @@ adds_dial : (s : AbstractPool) (who : CallerNo) (c : ConnNo) (target : Target) �
 unfolding after_dial
 adds_dial s who c target dial =
     let v = value_and (numbered c.0 s.connections) (λ x. IsTrue (is_wanted x.phase)) dial.lowest.passes in
-    let there : IsThere s.connections c = there_item s.connections c v.0 v.1 (wanted_there v.0.phase v.2) in
+    let there : IsThere s.connections c = there_item s.connections c v.0 v.1 (excludes is_wanted is_gone refl v.0.phase v.2) in
     adds_edit c.0 (dialing_by who) s.connections (λ x is_item. out_there x (dialing_by who x) refl (there x is_item))
 
 adds_reported : (s : AbstractPool) (who : CallerNo) (c : ConnNo) (sent : ℕ) (r : Report) → IsReply s who (Reported c sent r) →
@@ -204,7 +205,7 @@ within_assign : (s : AbstractPool) (m : Moment) (e : ExchangeNo) (c : ConnNo) (r
 unfolding after_assign noted
 within_assign s m e c r way due within =
     let p = passing (can_use s due.exchange) s.connections c.0 due.lowest.passes in
-    let there : IsThere s.connections c = there_item s.connections c p.0 p.1 (open_there p.0.phase (open_usable s due.exchange p.0 p.2)) in
+    let there : IsThere s.connections c = there_item s.connections c p.0 p.1 (excludes is_open is_gone refl p.0.phase (open_usable s due.exchange p.0 p.2)) in
     let f : Connection → Connection = with_start s.config.last_stream e r in
     within_adds s.config s.connections (edit c.0 f s.connections) (adds_edit c.0 f s.connections (λ x is_item. out_with_start s.config.last_stream e r x (there x is_item))) within
 

@@ -19,7 +19,7 @@ use Rattle.model_laws.proofs.AssignedLemmas.{place_parts}
 use Rattle.model_laws.proofs.StayLemmas.{stream_rises}
 use Rattle.model_laws.specs.LimitLaws.{HasPlace}
 use Rattle.model_laws.specs.Sound.{HasNoStreams, IsOrderly}
-use Rattle.model_histories.proofs.KeepLemmas.{wanted_only}
+use Rattle.model_authority.proofs.PhaseLemmas.{follows, excludes}
 use Rattle.model_steps.specs.After.{lease_at, excluding_moved, connection_after_answer}
 use Rattle.model_authority.specs.Lists.{is_nil}
 use Rattle.model_authority.specs.Statuses.{is_wanted, is_dialing, is_open, is_draining, is_closing, is_gone, is_opening, is_h2, shows, speaks_h2}
@@ -32,7 +32,7 @@ use Rattle.model_values.specs.declared.state.AbstractPool.{AbstractPool}
 use Rattle.model_values.specs.declared.state.Connection.{Connection}
 use Rattle.model_values.specs.declared.state.Exchange.{Exchange}
 use Rattle.model_values.specs.declared.state.Phase.{Phase}
-use Rattle.model_values.specs.declared.state.Phase.TheVariants.{Wanted, Dialing, Open, Draining, Closing, Gone}
+use Rattle.model_values.specs.declared.state.Phase.TheVariants.{Draining, Closing}
 
 -- ---- lists of streams
 
@@ -220,20 +220,12 @@ orderly_dialing config who c wanted h = record {
   started = h.started;
   ordered = h.ordered;
   opening = λ o.
-      let none = h.opening (wanted_only c.phase wanted).2 in
+      let none = h.opening (follows is_wanted is_opening refl c.phase wanted) in
       record { started = none.started; ordered = none.ordered; live = none.live };
   closing = λ t. absurd cc;
   h2 = h.h2;
   h1 = h.h1;
 }
-
-dialing_opening : (p : Phase) → is_dialing p ≡ true → is_opening p ≡ true
-dialing_opening Wanted h = absurd cc
-dialing_opening Dialing h = refl
-dialing_opening Open h = absurd cc
-dialing_opening Draining h = absurd cc
-dialing_opening Closing h = absurd cc
-dialing_opening Gone h = absurd cc
 
 -- one without streams may have any identity, and any next stream
 orderly_opened_with : (config : Config) (now : Moment) (id : Identity) (c : Connection) → HasNoStreams c → IsOrderly config (opened_with now id c)
@@ -264,21 +256,11 @@ pub orderly_after_opened : (config : Config) (is_shut : Bool) (now : Moment) (id
     IsOrderly config (after_opened is_shut now id c)
 unfolding after_opened
 orderly_after_opened config is_shut now id c dialing h =
-    let none : HasNoStreams c = h.opening (dialing_opening c.phase dialing) in
+    let none : HasNoStreams c = h.opening (follows is_dialing is_opening refl c.phase dialing) in
     cond_both (not is_shut && suits c.group id) (opened_with now id c) (refused_with id c) (IsOrderly config)
     (λ t. orderly_opened_with config now id c none) (λ f. orderly_refused_with config id c none h)
 
 -- ---- starts
-
--- an open one stays open, or drains
-up_with_start : (drains : Bool) (p : Phase) → is_open p ≡ true → (is_opening (if drains then Draining else p) ≡ false) × (is_closing (if drains then Draining else p) ≡ false)
-up_with_start true p h = (refl, refl)
-up_with_start false Wanted h = absurd cc
-up_with_start false Dialing h = absurd cc
-up_with_start false Open h = (refl, refl)
-up_with_start false Draining h = absurd cc
-up_with_start false Closing h = absurd cc
-up_with_start false Gone h = absurd cc
 
 pub orderly_with_start : (config : Config) (last : ℕ) (e : ExchangeNo) (r : StreamNo) (c : Connection) → is_open c.phase ≡ true → IsTrue (has_capacity config c) → r.0 ≡ c.next_stream →
     IsOrderly config c → IsOrderly config (with_start last e r c)
@@ -286,19 +268,21 @@ unfolding with_start
 orderly_with_start config last e r c opened capacity given h =
     let next : ℕ = stream_after r c in
     let rises : r.0 < next = stream_rises r c in
-    let up = up_with_start (nat_lt last next) c.phase opened in
     let place : HasPlace config c = place_parts config c capacity in
     let ordered : All (Below next) (streams_started c.orders ++ r ∷ []) =
     All-append (Below next) (streams_started c.orders) (r ∷ []) (risen (streams_started c.orders) h.ordered) (All-cons (Below next) r [] rises (All-nil (Below next))) in
     record {
       started = risen c.started h.started;
       ordered = subst (All (Below next)) (sym (flat_map-append started_by c.orders (mark.Start e r ∷ []))) ordered;
-      opening = λ o. absurd (both_ways _ up.0 o);
-      closing = λ t. absurd (both_ways _ up.1 t);
+      opening = λ o. absurd (both_ways _ (apart is_opening refl (excludes is_open is_opening refl c.phase opened)) o);
+      closing = λ t. absurd (both_ways _ (apart is_closing refl (excludes is_open is_closing refl c.phase opened)) t);
       h2 = λ t. let less : length c.live < config.streams = (place.h2 t).0 in omega (arith, length_push c.live r);
       h1 = λ f. let none : length c.live ≡ 0 = ap (λ (rs : List StreamNo). length rs) (place.h1 f) in omega (arith, length_push c.live r);
     }
   where
+    apart : (f : Phase → Bool) → f Draining ≡ false → f c.phase ≡ false → f (with_start last e r c).phase ≡ false
+    apart f drained same = cond_both (nat_lt last (stream_after r c)) Draining c.phase (λ (p : Phase). f p ≡ false) (λ t. drained) (λ t. same)
+
     risen : (rs : List StreamNo) → All (Below c.next_stream) rs → All (Below (stream_after r c)) rs
     risen rs all = All-weaker (Below c.next_stream) (Below (stream_after r c)) (λ x below. let rises : r.0 < stream_after r c = stream_rises r c in omega arith) rs all
 

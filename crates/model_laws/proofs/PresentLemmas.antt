@@ -13,6 +13,7 @@ use Rattle.model_changes.specs.Moves.{may_move}
 use Rattle.model_histories.proofs.EditLemmas.{edit_at, map_at}
 use Rattle.model_steps.specs.After.{lease_at, excluding_moved, connection_after_answer}
 use Rattle.model_authority.proofs.NumberLemmas.{numbered_at}
+use Rattle.model_authority.proofs.PhaseLemmas.{excludes}
 use Rattle.model_authority.specs.Lists.{numbered, edit, is_nil}
 use Rattle.model_authority.specs.Statuses.{is_wanted, is_dialing, is_open, is_draining, is_closing, is_gone, is_busy, speaks_h2}
 use Rattle.model_values.specs.declared.entry.Act.{Act}
@@ -21,41 +22,7 @@ use Rattle.model_values.specs.declared.state.AbstractPool.{AbstractPool}
 use Rattle.model_values.specs.declared.state.Connection.{Connection}
 use Rattle.model_values.specs.declared.state.Exchange.{Exchange}
 use Rattle.model_values.specs.declared.state.Phase.{Phase}
-use Rattle.model_values.specs.declared.state.Phase.TheVariants.{Wanted, Dialing, Open, Draining, Closing, Gone}
-
--- ---- phases
-
-pub wanted_there : (p : Phase) → is_wanted p ≡ true → is_gone p ≡ false
-wanted_there Wanted h = refl
-wanted_there Dialing h = refl
-wanted_there Open h = refl
-wanted_there Draining h = refl
-wanted_there Closing h = refl
-wanted_there Gone h = absurd cc
-
-pub dialing_there : (p : Phase) → is_dialing p ≡ true → is_gone p ≡ false
-dialing_there Wanted h = refl
-dialing_there Dialing h = refl
-dialing_there Open h = refl
-dialing_there Draining h = refl
-dialing_there Closing h = refl
-dialing_there Gone h = absurd cc
-
-pub open_there : (p : Phase) → is_open p ≡ true → is_gone p ≡ false
-open_there Wanted h = refl
-open_there Dialing h = refl
-open_there Open h = refl
-open_there Draining h = refl
-open_there Closing h = refl
-open_there Gone h = absurd cc
-
-pub busy_there : (p : Phase) → is_busy p ≡ true → is_gone p ≡ false
-busy_there Wanted h = refl
-busy_there Dialing h = refl
-busy_there Open h = refl
-busy_there Draining h = refl
-busy_there Closing h = refl
-busy_there Gone h = absurd cc
+use Rattle.model_values.specs.declared.state.Phase.TheVariants.{Draining, Closing}
 
 -- ---- one connection
 
@@ -148,7 +115,7 @@ out_after_too_large now r c =
 out_draining : (c : Connection) → StaysOut c (draining c)
 out_draining c =
     let drained : Connection = record c { phase = Draining } in
-    cond_both (is_open c.phase) drained c (StaysOut c) (λ t. out_there c drained refl (open_there c.phase t)) (λ f. out_refl c)
+    cond_both (is_open c.phase) drained c (StaysOut c) (λ t. out_there c drained refl (excludes is_open is_gone refl c.phase t)) (λ f. out_refl c)
 
 pub out_after_goaway : (now : Moment) (conn : ConnNo) (es : List Exchange) (last : StreamNo) (c : Connection) → StaysOut c (after_goaway now conn es last c)
 unfolding after_goaway

@@ -1,6 +1,7 @@
 -- A shutdown is final: each exchange has ended, no connection is wanted, open or draining, and nothing begins.
 use Rattle.std.proofs.Common.{◌≡◌, ◌<◌, ◌+◌, ◌⊎◌, ℕ, List, Option, Some, None, Bool, true, inl, inr, refl, sym, ap, subst, ◌∙◌, arith, is_some, IsSome, IsTrue}
-use Rattle.std.proofs.lemmas.Bool.{cond_both, both_ways}
+use Rattle.std.specs.Prelude.{◌||◌}
+use Rattle.std.proofs.lemmas.Bool.{cond_both, both_ways, false_from_ne_true, or_from}
 use Rattle.net_base.specs.declared.end_cause.EndCause.{EndCause}
 use Rattle.net_base.specs.declared.identity.Identity.{Identity}
 use Rattle.net_base.specs.declared.numbers.CallerNo.{CallerNo}
@@ -27,6 +28,7 @@ use Rattle.model_steps.specs.After.{noted, after_submit, after_cancel, after_rep
 use Rattle.model_steps.specs.Exchanges.{ended_by, ended_unless}
 use Rattle.model_authority.proofs.NumberLemmas.{value_and}
 use Rattle.model_authority.specs.Lists.{numbered}
+use Rattle.model_authority.proofs.PhaseLemmas.{excludes, or_else}
 use Rattle.model_authority.specs.Statuses.{has_ended, is_wanted, is_open, is_draining}
 use Rattle.model_authority.specs.Ways.{group_for}
 use Rattle.model_values.specs.declared.config.Config.{Config}
@@ -47,7 +49,6 @@ use Rattle.model_values.specs.declared.state.AbstractPool.{AbstractPool}
 use Rattle.model_values.specs.declared.state.Connection.{Connection}
 use Rattle.model_values.specs.declared.state.Exchange.{Exchange}
 use Rattle.model_values.specs.declared.state.Phase.{Phase}
-use Rattle.model_values.specs.declared.state.Phase.TheVariants.{Wanted, Dialing, Open, Draining, Closing, Gone}
 
 -- ---- the mark of the shutdown, which only the shutdown sets
 
@@ -159,20 +160,13 @@ IsDownAt None = Unit {0}
 IsDownAt (Some y) = is_down y.phase ≡ true
 
 down_parts : (p : Phase) → is_down p ≡ true → (¬ IsTrue (is_wanted p)) × (¬ IsTrue (is_open p)) × (¬ IsTrue (is_draining p))
-down_parts Wanted h = absurd cc
-down_parts Dialing h = (λ e. absurd cc, λ e. absurd cc, λ e. absurd cc)
-down_parts Open h = absurd cc
-down_parts Draining h = absurd cc
-down_parts Closing h = (λ e. absurd cc, λ e. absurd cc, λ e. absurd cc)
-down_parts Gone h = (λ e. absurd cc, λ e. absurd cc, λ e. absurd cc)
+down_parts p h =
+    (both_ways (is_wanted p) (excludes is_down is_wanted refl p h), both_ways (is_open p) (excludes is_down is_open refl p h), both_ways (is_draining p) (excludes is_down is_draining refl p h))
 
 down_from : (p : Phase) → (¬ IsTrue (is_wanted p)) × (¬ IsTrue (is_open p)) × (¬ IsTrue (is_draining p)) → is_down p ≡ true
-down_from Wanted h = absurd (h.0 refl)
-down_from Dialing h = refl
-down_from Open h = absurd (h.1 refl)
-down_from Draining h = absurd (h.2 refl)
-down_from Closing h = refl
-down_from Gone h = refl
+down_from p h =
+    or_else is_wanted (λ q. is_open q || is_draining q) is_down refl p (false_from_ne_true (is_wanted p) h.0)
+    (or_from (is_open p) (is_draining p) (false_from_ne_true (is_open p) h.1) (false_from_ne_true (is_draining p) h.2))
 
 -- by the number of each
 record AllOver (s : AbstractPool) : Type 0 where
