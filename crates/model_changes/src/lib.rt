@@ -6,5 +6,4 @@
 pub mod alternatives;
 pub mod connections;
 pub mod connections_at;
-pub mod moves;
 pub mod suits;

@@ -14,7 +14,10 @@ use Rattle.net_base.specs.declared.target.Target.{Target}
 use Rattle.net_base.specs.declared.target.Via.{Via}
 use Rattle.net_base.specs.declared.target.Via.TheVariants as via
 use Rattle.partition_keys.specs.declared.group.GroupKey.{GroupKey}
-use Rattle.model_steps.specs.After.{noted, sent_noted, after, after_act, after_submit, after_cancel, after_reprioritise, after_preconnect, after_resolved, after_network, after_shut, after_dial, after_orders, after_useless, is_useless, after_identity_of, after_open, after_open_of, after_answered, after_leases, after_alt_seen, after_report, is_dial_failed, after_failed_dial, after_closed, after_expire, after_lapse, after_assign, after_want_of, after_want, after_evict}
+use Rattle.model_steps.specs.After.{noted, sent_noted, after, after_act, after_submit, after_cancel, after_reprioritise, after_preconnect, after_resolved, after_network, after_shut, after_dial, after_orders, after_leases, after_alt_seen, after_report, after_expire, after_lapse, after_assign, after_want_of, after_want, after_evict}
+use Rattle.model_steps.specs.Opened.{after_useless, is_useless, after_identity_of, after_open, after_open_of}
+use Rattle.model_steps.specs.Answered.{after_answered}
+use Rattle.model_steps.specs.Lost.{is_dial_failed, after_failed_dial, after_closed}
 use Rattle.model_changes.specs.Connections.{gone}
 use Rattle.model_histories.specs.Histories.{opening, now_of, run_from, run}
 use Rattle.model_authority.specs.Lists.{numbered}

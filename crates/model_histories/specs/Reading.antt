@@ -7,10 +7,9 @@ use Rattle.net_base.specs.declared.numbers.ConnNo.{ConnNo}
 use Rattle.net_base.specs.declared.numbers.ExchangeNo.{ExchangeNo}
 use Rattle.net_base.specs.declared.numbers.StreamNo.{StreamNo}
 use Rattle.net_base.specs.declared.target.Target.{Target}
-use Rattle.model_changes.specs.Connections.{is_start_of, is_reset_of}
+use Rattle.model_changes.specs.Connections.{is_start_of, is_reset_of, is_stream}
 use Rattle.model_histories.specs.Histories.{run}
 use Rattle.model_authority.specs.Lists.{numbered}
-use Rattle.model_changes.specs.Moves.{is_stream}
 use Rattle.model_authority.specs.Statuses.{is_at}
 use Rattle.model_values.specs.declared.config.Config.{Config}
 use Rattle.model_values.specs.declared.entry.Act.{Act}

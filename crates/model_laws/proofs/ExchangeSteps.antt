@@ -8,9 +8,11 @@ use Rattle.net_base.specs.declared.numbers.ConnNo.{ConnNo}
 use Rattle.net_base.specs.declared.numbers.Moment.{Moment}
 use Rattle.net_base.specs.declared.numbers.StreamNo.{StreamNo}
 use Rattle.model_changes.specs.Connections.{is_start_of}
-use Rattle.model_changes.specs.Moves.{lease_moves, may_move}
+use Rattle.model_changes.specs.Moves.{lease_moves}
+use Rattle.model_laws.specs.MoveLaws.{may_move}
 use Rattle.model_histories.proofs.EditLemmas.{edit_at, map_at, append_at, each_one}
-use Rattle.model_steps.specs.Exchanges.{with_status, ended_by, with_urgency, timed_out_at, timed_out, ended_unless, ended_if_waiting, moved, marked_by_report, marked_by, ended_at, ended_on, ended_by_report, ended_by_act, lease_after, handed_lease, handed_by}
+use Rattle.model_steps.specs.Exchanges.{with_status, ended_by, with_urgency, timed_out_at, timed_out, ended_unless, ended_if_waiting, moved, marked_by_report, marked_by, ended_on, ended_by_report, ended_by_act, lease_after, handed_lease, handed_by}
+use Rattle.model_steps.specs.StreamEnds.{ended_at}
 use Rattle.model_authority.specs.Lists.{numbered, edit}
 use Rattle.model_authority.specs.Statuses.{is_waiting, is_leased, has_ended, is_on, is_at, is_handed}
 use Rattle.model_values.specs.declared.entry.Act.{Act}

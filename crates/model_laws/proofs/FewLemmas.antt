@@ -23,9 +23,12 @@ use Rattle.partition_keys.specs.declared.group.GroupKey.{GroupKey}
 use Rattle.partition_keys.specs.declared.key.PartitionKey.{PartitionKey}
 use Rattle.model_changes.specs.Alternatives.{marked_as_before, other_rows, with_list, updated_alternatives, with_broken_in, broken_alternatives, later_by, with_proven_in, proven_alternatives, without_target_in, dropped_alternatives, persistent_in, persistent_alternatives}
 use Rattle.model_changes.specs.Connections.{gone}
-use Rattle.model_changes.specs.Moves.{may_move}
+use Rattle.model_laws.specs.MoveLaws.{may_move}
 use Rattle.model_histories.specs.Histories.{opening}
-use Rattle.model_steps.specs.After.{noted, after_submit, after_cancel, after_reprioritise, after_preconnect, after_resolved, after_network, after_shut, after_dial, after_orders, after_useless, is_useless, after_identity_of, after_open_of, after_open, lease_at, alternatives_of_move, alternatives_of_end, alternatives_of_lease, alternatives_by, alternatives_after_answer, after_answered, after_leases, after_alt_seen, after_report, is_dial_failed, after_failed_dial, after_closed, after_expire, after_lapse, after_assign, after_want_of, after_want, after_evict, sent_noted, after_act, after}
+use Rattle.model_steps.specs.After.{noted, after_submit, after_cancel, after_reprioritise, after_preconnect, after_resolved, after_network, after_shut, after_dial, after_orders, alternatives_of_lease, alternatives_by, alternatives_after_answer, after_leases, after_alt_seen, after_report, after_expire, after_lapse, after_assign, after_want_of, after_want, after_evict, sent_noted, after_act, after}
+use Rattle.model_steps.specs.Opened.{after_useless, is_useless, after_identity_of, after_open_of, after_open}
+use Rattle.model_steps.specs.Answered.{lease_at, without_misdirecting, with_words_of, after_answered}
+use Rattle.model_steps.specs.Lost.{is_dial_failed, after_failed_dial, after_closed}
 use Rattle.model_authority.specs.Lists.{numbered}
 use Rattle.model_authority.specs.Statuses.{has_coalesced_lease}
 use Rattle.model_authority.specs.Ways.{is_row_of, list_of}
@@ -95,12 +98,12 @@ few_persistent rows few = few_map persistent_in rows few
 
 -- ---- answers
 
-few_move : (e : Exchange) (t : Target) (rows : List AltRow) → AreFew rows → AreFew (alternatives_of_move e t rows)
+few_move : (e : Exchange) (t : Target) (rows : List AltRow) → AreFew rows → AreFew (without_misdirecting e t rows)
 few_move e t rows few =
     cond_both (has_coalesced_lease e.status) rows (dropped_alternatives e.ask.key e.ask.request.origin t rows) AreFew
     (λ c. few) (λ f. few_dropped e.ask.key e.ask.request.origin t rows few)
 
-few_end : (e : Exchange) (t : Target) (alt : AltUpdate) (given : Proof) (rows : List AltRow) → AreFew rows → AreFew (alternatives_of_end e t alt given rows)
+few_end : (e : Exchange) (t : Target) (alt : AltUpdate) (given : Proof) (rows : List AltRow) → AreFew rows → AreFew (with_words_of e t alt given rows)
 few_end e t alt given rows few = few_proven e.ask.key e.ask.request.origin t given _ (few_updated e.ask.key e.ask.request.origin alt rows few)
 
 few_lease : (act : Act) (t : Target) (alt : AltUpdate) (given : Proof) (lease : Option Exchange) (rows : List AltRow) → AreFew rows →
@@ -108,7 +111,7 @@ few_lease : (act : Act) (t : Target) (alt : AltUpdate) (given : Proof) (lease : 
 unfolding alternatives_of_lease
 few_lease act t alt given None rows few = few
 few_lease act t alt given (Some e) rows few =
-    cond_both (may_move e act) (alternatives_of_move e t rows) (alternatives_of_end e t alt given rows) AreFew
+    cond_both (may_move e act) (without_misdirecting e t rows) (with_words_of e t alt given rows) AreFew
     (λ m. few_move e t rows few) (λ f. few_end e t alt given rows few)
 
 few_by : (act : Act) (alt : AltUpdate) (given : Proof) (lease : Option Exchange) (o : Option Connection) (rows : List AltRow) → AreFew rows →

@@ -10,7 +10,9 @@ use Rattle.net_base.specs.declared.numbers.CallerNo.{CallerNo}
 use Rattle.net_base.specs.declared.numbers.ConnNo.{ConnNo}
 use Rattle.net_base.specs.declared.numbers.ExchangeNo.{ExchangeNo}
 use Rattle.net_base.specs.declared.numbers.StreamNo.{StreamNo}
-use Rattle.model_changes.specs.Moves.{is_stream, may_retry, lease_moves, may_move}
+use Rattle.model_changes.specs.Moves.{lease_moves}
+use Rattle.model_changes.specs.Connections.{is_stream}
+use Rattle.model_steps.specs.Lost.{may_retry, after_closed}
 use Rattle.model_laws.proofs.CourseLemmas.{IsKept, state_later, state_after}
 use Rattle.model_laws.proofs.EndedLemmas.{ended_stays_ended}
 use Rattle.model_laws.proofs.ExchangeSteps.{Stays, StaysAt, BecomesAt}
@@ -18,11 +20,11 @@ use Rattle.model_laws.proofs.ExchangesAfter.{stay_closed, exchange_after}
 use Rattle.model_laws.proofs.SentLemmas.{started_by}
 use Rattle.model_laws.proofs.SoundLemmas.{reached_is_sound}
 use Rattle.model_laws.specs.Courses.{state_at, OfExchange}
-use Rattle.model_laws.specs.MoveLaws.{MovesAreLawful, WasHanded, WasRetried, MayNotBeSentAgain, LostExchangesStayLost}
+use Rattle.model_laws.specs.MoveLaws.{may_move, MovesAreLawful, WasHanded, WasRetried, MayNotBeSentAgain, LostExchangesStayLost}
 use Rattle.model_laws.specs.Sound.{StartedAreSent}
 use Rattle.model_histories.proofs.EditLemmas.{map_at}
 use Rattle.model_histories.specs.Histories.{MayStand, IsHistory}
-use Rattle.model_steps.specs.After.{noted, sent_noted, after_closed, after_act, after}
+use Rattle.model_steps.specs.After.{noted, sent_noted, after_act, after}
 use Rattle.model_steps.specs.Exchanges.{moved, marked_by, ended_by, ended_on, ended_by_act, lease_after}
 use Rattle.model_authority.proofs.NumberLemmas.{value_and}
 use Rattle.model_authority.specs.Lists.{numbered}

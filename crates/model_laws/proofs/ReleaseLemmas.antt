@@ -18,7 +18,10 @@ use Rattle.model_laws.proofs.TurnLemmas.{IsClaim, not_shut, none_waits}
 use Rattle.model_laws.proofs.YieldLemmas.{Yields, none_ends, unsent_leased, yields_same, yields_end, yields_trans, yields_ended_unless, yields_ended_if_waiting, yields_timed_out, yields_lease_after, yields_handed}
 use Rattle.model_histories.proofs.EditLemmas.{edit_other, edit_at, map_at, append_at, each_one}
 use Rattle.model_histories.specs.Replies.{IsSubmitReply}
-use Rattle.model_steps.specs.After.{after_submit, after_cancel, after_reprioritise, after_preconnect, after_resolved, after_network, after_shut, after_dial, after_orders, after_useless, is_useless, after_identity_of, after_open_of, after_open, after_answered, after_leases, after_alt_seen, after_report, is_dial_failed, after_failed_dial, after_closed, after_expire, after_lapse, after_assign, after_want_of, after_want, after_evict, sent_noted, after_act}
+use Rattle.model_steps.specs.After.{after_submit, after_cancel, after_reprioritise, after_preconnect, after_resolved, after_network, after_shut, after_dial, after_orders, after_leases, after_alt_seen, after_report, after_expire, after_lapse, after_assign, after_want_of, after_want, after_evict, sent_noted, after_act}
+use Rattle.model_steps.specs.Opened.{after_useless, is_useless, after_identity_of, after_open_of, after_open}
+use Rattle.model_steps.specs.Answered.{after_answered}
+use Rattle.model_steps.specs.Lost.{is_dial_failed, after_failed_dial, after_closed}
 use Rattle.model_steps.specs.Exchanges.{new_exchange, with_status, ended_by, with_urgency, timed_out, ended_unless, ended_if_waiting, lease_after, handed_by}
 use Rattle.model_authority.specs.Lists.{numbered, edit}
 use Rattle.model_authority.specs.Statuses.{has_ended, is_at, is_unsent_at}

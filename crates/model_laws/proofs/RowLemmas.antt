@@ -28,11 +28,14 @@ use Rattle.partition_keys.specs.declared.group.GroupKey.{GroupKey}
 use Rattle.partition_keys.specs.declared.key.PartitionKey.{PartitionKey}
 use Rattle.model_changes.specs.Alternatives.{marked_as_before, other_rows, with_list, updated_alternatives, broken_from, with_broken_in, broken_alternatives, later_by, proven_from, with_proven_in, proven_alternatives, leads_to, without_target_in, dropped_alternatives, persistent_in, persistent_alternatives}
 use Rattle.model_changes.specs.Connections.{gone}
-use Rattle.model_changes.specs.Moves.{may_move}
+use Rattle.model_laws.specs.MoveLaws.{may_move}
 use Rattle.model_laws.proofs.SameLemmas.{keys_are, origins_are}
 use Rattle.model_laws.specs.Sound.{RowsAreApart}
 use Rattle.model_histories.specs.Histories.{opening}
-use Rattle.model_steps.specs.After.{noted, after_submit, after_cancel, after_reprioritise, after_preconnect, other_hosts, after_resolved, after_network, after_shut, after_dial, after_orders, with_proto, after_useless, is_useless, after_identity_of, after_open_of, after_open, lease_at, alternatives_of_move, alternatives_of_end, alternatives_of_lease, alternatives_by, alternatives_after_answer, after_answered, after_leases, after_alt_seen, after_report, is_dial_failed, after_failed_dial, after_closed, after_expire, after_lapse, after_assign, after_want_of, after_want, after_evict, sent_noted, after_act, after}
+use Rattle.model_steps.specs.After.{noted, after_submit, after_cancel, after_reprioritise, after_preconnect, other_hosts, after_resolved, after_network, after_shut, after_dial, after_orders, alternatives_of_lease, alternatives_by, alternatives_after_answer, after_leases, after_alt_seen, after_report, after_expire, after_lapse, after_assign, after_want_of, after_want, after_evict, sent_noted, after_act, after}
+use Rattle.model_steps.specs.Opened.{with_proto, after_useless, is_useless, after_identity_of, after_open_of, after_open}
+use Rattle.model_steps.specs.Answered.{lease_at, without_misdirecting, with_words_of, after_answered}
+use Rattle.model_steps.specs.Lost.{is_dial_failed, after_failed_dial, after_closed}
 use Rattle.model_authority.specs.Lists.{numbered}
 use Rattle.model_authority.specs.Statuses.{has_coalesced_lease}
 use Rattle.model_authority.specs.Ways.{is_row_of, is_host_row_of, list_of}
@@ -177,12 +180,12 @@ apart_persistent rows apart = apart_lists persistent_in rows (λ x. record { key
 
 -- ---- answers
 
-apart_move : (e : Exchange) (t : Target) (rows : List AltRow) → AreOfOrigins rows → AreOfOrigins (alternatives_of_move e t rows)
+apart_move : (e : Exchange) (t : Target) (rows : List AltRow) → AreOfOrigins rows → AreOfOrigins (without_misdirecting e t rows)
 apart_move e t rows apart =
     cond_both (has_coalesced_lease e.status) rows (dropped_alternatives e.ask.key e.ask.request.origin t rows) AreOfOrigins
     (λ c. apart) (λ f. apart_dropped e.ask.key e.ask.request.origin t rows apart)
 
-apart_end : (e : Exchange) (t : Target) (alt : AltUpdate) (given : Proof) (rows : List AltRow) → AreOfOrigins rows → AreOfOrigins (alternatives_of_end e t alt given rows)
+apart_end : (e : Exchange) (t : Target) (alt : AltUpdate) (given : Proof) (rows : List AltRow) → AreOfOrigins rows → AreOfOrigins (with_words_of e t alt given rows)
 apart_end e t alt given rows apart = apart_proven e.ask.key e.ask.request.origin t given _ (apart_updated e.ask.key e.ask.request.origin alt rows apart)
 
 apart_lease : (act : Act) (t : Target) (alt : AltUpdate) (given : Proof) (lease : Option Exchange) (rows : List AltRow) → AreOfOrigins rows →
@@ -190,7 +193,7 @@ apart_lease : (act : Act) (t : Target) (alt : AltUpdate) (given : Proof) (lease 
 unfolding alternatives_of_lease
 apart_lease act t alt given None rows apart = apart
 apart_lease act t alt given (Some e) rows apart =
-    cond_both (may_move e act) (alternatives_of_move e t rows) (alternatives_of_end e t alt given rows) AreOfOrigins
+    cond_both (may_move e act) (without_misdirecting e t rows) (with_words_of e t alt given rows) AreOfOrigins
     (λ m. apart_move e t rows apart) (λ f. apart_end e t alt given rows apart)
 
 apart_by : (act : Act) (alt : AltUpdate) (given : Proof) (lease : Option Exchange) (o : Option Connection) (rows : List AltRow) → AreOfOrigins rows →

@@ -3,7 +3,12 @@
 #![tactic(auto)]
 
 pub mod after;
+pub mod answered;
 pub mod calls;
 pub mod exchanges;
+pub mod goaway;
+pub mod lost;
+pub mod opened;
 pub mod pools_entries;
+pub mod stream_ends;
 pub mod workers_entries;
