@@ -6,13 +6,13 @@ ghost use Rattle.model_authority.specs.Lists.{is_nil};
 ghost use Rattle.model_authority.specs.Statuses as statuses;
 
 use crate::suits::suits;
+use model_authority::statuses::{is_draining, is_open, is_unsent_at, speaks_h2};
+use model_values::{Connection, Exchange, OrderMark, OrderMarks, Phase};
 use net_base::{
     CallerNo, ConnNo, ExchangeNo, Identity, Listed, Moment, NoMem, Origin, PlainValue, StreamList,
     StreamNo,
 };
 use partition_keys::GroupKey;
-use model_values::{Connection, Exchange, OrderMark, OrderMarks, Phase};
-use model_authority::statuses::{is_draining, is_open, is_unsent_at, speaks_h2};
 use std::alloc::Global;
 
 /// Whether there is no stream.

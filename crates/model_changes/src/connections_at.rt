@@ -4,12 +4,12 @@ ghost use Rattle.model_changes.specs.Connections as spec;
 ghost use Rattle.model_authority.specs.Lists.{edit};
 
 use crate::connections::{
-    after_answer, going_away, after_opened, after_shutdown, after_large_answer, closing, dialing_by,
-    excluding, gone, with_limit, with_sent, with_start, with_taken, without_exchange,
+    after_answer, after_large_answer, after_opened, after_shutdown, closing, dialing_by, excluding,
+    going_away, gone, with_limit, with_sent, with_start, with_taken, without_exchange,
     without_start, without_stream,
 };
-use net_base::{CallerNo, ConnNo, ExchangeNo, Identity, Moment, NoMem, Origin, StreamNo};
 use model_values::{Connection, Exchange, OrderMark};
+use net_base::{CallerNo, ConnNo, ExchangeNo, Identity, Moment, NoMem, Origin, StreamNo};
 use std::alloc::Global;
 
 /// It is told to close, and to do nothing else.

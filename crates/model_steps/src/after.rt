@@ -7,13 +7,13 @@ use crate::calls::{
     after_cancel, after_dial, after_network, after_orders, after_preconnect, after_reprioritise,
     after_resolved, after_shut, after_submit, group_parts_for,
 };
-use crate::pools_entries::{after_assign, after_evict, after_expire, after_lapse, after_want};
 use crate::lost::after_closed;
+use crate::pools_entries::{after_assign, after_evict, after_expire, after_lapse, after_want};
 use crate::workers_entries::{after_report, note_sent};
+use model_authority::keys::build_group;
+use model_values::{AbstractPool, Act, OrderMarks, PreconnectReply};
 use net_base::{CallerNo, ConnNo, NoMem, Origin};
 use partition_keys::PartitionKey;
-use model_values::{AbstractPool, Act, OrderMarks, PreconnectReply};
-use model_authority::keys::build_group;
 use std::alloc::Global;
 
 /// A call to open connections of this origin ahead.

@@ -1,5 +1,5 @@
 // What an answer does, to its exchange, to the connection and to the alternatives.
-ghost use Rattle.std.specs.Prelude.{◌≡◌, OnOk, find, map};
+ghost use Rattle.std.specs.Prelude.{◌≡◌, OnOk, Some, find, map};
 ghost use Rattle.std.specs.Option.{option_copied};
 ghost use Rattle.model_authority.specs.Lists as lists;
 ghost use Rattle.model_authority.specs.Lists.{edit};
@@ -7,17 +7,15 @@ ghost use Rattle.model_authority.specs.Statuses as statuses;
 ghost use Rattle.model_steps.specs.Answered as spec;
 
 use crate::exchanges::wait_again;
-use net_base::{ConnNo, Moment, NoMem, PlainValue, Response, StreamNo, Target};
-use partition_keys::{AltUpdate, Proof};
+use model_authority::lists::numbered;
+use model_authority::statuses::is_at;
 use model_changes::alternatives::{
     dropped_alternatives, proven_alternatives, updated_alternatives,
 };
 use model_changes::connections::{after_answer, excluding};
-use model_values::{
-    AbstractPool, AltRow, Connection, Exchange, Outcome, Rows, Status, Way,
-};
-use model_authority::lists::numbered;
-use model_authority::statuses::is_at;
+use model_values::{AbstractPool, AltRow, Connection, Exchange, Outcome, Rows, Status, Way};
+use net_base::{ConnNo, Moment, NoMem, PlainValue, Response, StreamNo, Target};
+use partition_keys::{AltUpdate, Proof};
 use std::alloc::Global;
 
 /// Whether the exchange has a lease, and the connection doesn't go to its origin itself.
@@ -206,22 +204,22 @@ fn note_words(
     )
 }
 
-/// What an answer on the lease of this exchange does to the alternatives, where the lease leads to this target.
+/// What an answer on this lease of this connection does to the alternatives.
 fn answer_alternatives_of(
     alloc: Global,
     rows: &mut Rows<AltRow>,
     e: &Exchange,
-    t: &Target,
+    c: &Connection,
     response: &Response,
     alt: &AltUpdate,
     proof: Proof,
 ) -> Result<(), NoMem>
-    ensures { OnOk result (rows.new ≡ if spec.is_misdirected response.now e.now then spec.without_misdirecting e.now t.now rows.old else spec.with_words_of e.now t.now alt.now proof rows.old) }
+    ensures { OnOk result (rows.new ≡ spec.answered_alternatives response.now alt.now proof (Some e.now) (Some c.now) rows.old) }
 {
     if is_misdirected(response, e) {
-        drop_misdirecting(alloc, rows, e, t)
+        drop_misdirecting(alloc, rows, e, &c.group.target)
     } else {
-        note_words(alloc, rows, e, t, alt, proof)
+        note_words(alloc, rows, e, &c.group.target, alt, proof)
     }
 }
 
@@ -238,8 +236,7 @@ fn answer_alternatives(
     ensures { OnOk result (rows.new ≡ spec.answered_alternatives response.now alt.now proof (option_copied lease.entry) (option_copied conn.entry) rows.old) }
 {
     match (lease, conn) {
-        (Some(e), Some(c)) =>
-            answer_alternatives_of(alloc, rows, e, &c.group.target, response, alt, proof),
+        (Some(e), Some(c)) => answer_alternatives_of(alloc, rows, e, c, response, alt, proof),
         (Some(_), None) => Ok(()),
         (None, _) => Ok(()),
     }

@@ -6,10 +6,10 @@ ghost use Rattle.model_steps.specs.Exchanges as spec;
 ghost use Rattle.model_authority.specs.Lists.{edit};
 ghost use Rattle.model_values.specs.declared.state.Status.TheVariants.{Leased};
 
-use net_base::{CallerNo, ConnNo, StreamNo};
+use model_authority::statuses::is_waiting;
 use model_changes::connections::is_start_of;
 use model_values::{Exchange, OrderMark, Outcome, Status, Submission, Way};
-use model_authority::statuses::is_waiting;
+use net_base::{CallerNo, ConnNo, StreamNo};
 
 /// An exchange that waits.
 pub fn new_exchange(who: CallerNo, ask: Submission) -> Exchange

@@ -3,9 +3,9 @@ ghost use Rattle.std.specs.Prelude.{◌≡◌, OnOk, map};
 ghost use Rattle.model_steps.specs.Goaway as spec;
 
 use crate::exchanges::wait_again;
-use net_base::{ConnNo, NoMem, StreamNo};
 use model_changes::connections_at::going_away_at;
 use model_values::{AbstractPool, Exchange, Status};
+use net_base::{ConnNo, NoMem, StreamNo};
 use std::alloc::Global;
 
 /// Whether the lease is on this connection, and isn't handed yet or is above the last stream.

@@ -7,11 +7,11 @@ ghost use Rattle.model_steps.specs.Lost as spec;
 
 use crate::exchanges::wait_again;
 use crate::opened::after_useless;
-use net_base::{ConnNo, EndCause, NoMem, PlainValue, StreamNo, is_idempotent};
 use model_authority::lists::numbered;
 use model_authority::statuses::is_on;
 use model_changes::connections_at::gone_at;
 use model_values::{AbstractPool, Exchange, Outcome, Status};
+use net_base::{ConnNo, EndCause, NoMem, PlainValue, StreamNo, is_idempotent};
 use std::alloc::Global;
 
 /// Whether the stream is among those that were heard.

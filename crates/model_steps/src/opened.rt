@@ -4,14 +4,14 @@ ghost use Rattle.partition_keys.specs.Equality.{same_group as equal_groups};
 ghost use Rattle.model_steps.specs.Opened as spec;
 
 use crate::exchanges::end_numbered_if_waiting;
-use net_base::{ConnNo, ExchangeNo, Identity, NoMem, PlainValue, Proto, Via};
-use partition_keys::GroupKey;
+use model_authority::keys::{parts_of_group, same_group};
+use model_authority::lists::numbered;
 use model_changes::alternatives::broken_alternatives;
 use model_changes::connections_at::after_opened_at;
 use model_changes::suits::suits;
 use model_values::{AbstractPool, Exchange, Outcome, ProtoRow, Rows};
-use model_authority::keys::{parts_of_group, same_group};
-use model_authority::lists::numbered;
+use net_base::{ConnNo, ExchangeNo, Identity, NoMem, PlainValue, Proto, Via};
+use partition_keys::GroupKey;
 use std::alloc::Global;
 
 /// Drops the protocol of this group.
@@ -116,7 +116,12 @@ fn open_group(
 
 /// A connection is opened.
 #[tactic(auto, unfolding(crate::specs::Opened::after_open))]
-pub fn after_open(alloc: Global, s: &mut AbstractPool, conn: ConnNo, id: &Identity) -> Result<(), NoMem>
+pub fn after_open(
+    alloc: Global,
+    s: &mut AbstractPool,
+    conn: ConnNo,
+    id: &Identity,
+) -> Result<(), NoMem>
     ensures { OnOk result (s.new ≡ spec.after_open s.old conn id.now) }
 {
     let (group, wanted_for) = match numbered(u64::from(conn.0), s.connections.as_slice()) {

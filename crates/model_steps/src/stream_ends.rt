@@ -3,10 +3,10 @@ ghost use Rattle.std.specs.Prelude.{◌≡◌, OnOk, map};
 ghost use Rattle.model_steps.specs.StreamEnds as spec;
 
 use crate::exchanges::wait_again;
-use net_base::{ConnNo, NoMem, PlainValue, StreamNo};
 use model_authority::statuses::is_at;
 use model_changes::connections_at::{after_large_answer_at, without_stream_at};
 use model_values::{AbstractPool, Exchange, Outcome, Status};
+use net_base::{ConnNo, NoMem, PlainValue, StreamNo};
 use std::alloc::Global;
 
 /// The exchange waits again where it has the lease on this stream.
@@ -104,13 +104,7 @@ pub fn after_reset(
 {
     after_stream_closed(alloc, s, conn, stream)?;
     let how = Outcome::Reset(code);
-    end_all_at(
-        alloc,
-        conn,
-        stream,
-        &how,
-        s.exchanges.items.as_mut_slice(),
-    )
+    end_all_at(alloc, conn, stream, &how, s.exchanges.items.as_mut_slice())
 }
 
 /// The answer is longer than what is kept.
@@ -131,11 +125,5 @@ pub fn after_too_large(
         stream,
     )?;
     let how = Outcome::TooLarge;
-    end_all_at(
-        alloc,
-        conn,
-        stream,
-        &how,
-        s.exchanges.items.as_mut_slice(),
-    )
+    end_all_at(alloc, conn, stream, &how, s.exchanges.items.as_mut_slice())
 }

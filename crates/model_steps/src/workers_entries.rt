@@ -7,12 +7,12 @@ use crate::answered::after_answered;
 use crate::goaway::after_goaway;
 use crate::opened::after_open;
 use crate::stream_ends::{after_refused, after_reset, after_stream_closed, after_too_large};
-use net_base::{ConnNo, NoMem, Origin};
-use partition_keys::AltUpdate;
 use model_authority::lists::numbered;
 use model_changes::alternatives::updated_alternatives;
 use model_changes::connections_at::{with_limit_at, with_sent_at};
 use model_values::{AbstractPool, Report};
+use net_base::{ConnNo, NoMem, Origin};
+use partition_keys::AltUpdate;
 use std::alloc::Global;
 
 /// An ALTSVC frame was seen.
