@@ -184,8 +184,8 @@ go_report s who c sent r fit =
     let act : Act = Reported c sent r in
     let reported = reported_in x r v.2.1 in
     let first : numbered c.0 t.connections ≡ Some (with_sent sent x) = edit_here c.0 (with_sent sent) s.connections x v.1 in
-    one_goes who act c.0 (λ a b. MayWorkBy (with_sent sent a) b) x s.connections (after_report t c act r).connections v.1
-    (one_after MayWorkBy c.0 (with_sent sent) s.connections (after_report t c act r).connections x (worked_report t c act r (with_sent sent x) first reported))
+    one_goes who act c.0 (λ a b. MayWorkBy (with_sent sent a) b) x s.connections (after_report t c r).connections v.1
+    (one_after MayWorkBy c.0 (with_sent sent) s.connections (after_report t c r).connections x (worked_report t c r (with_sent sent x) first reported))
     (report_apart c sent r) (λ y worked. report_goes who c sent r x y v.2.0.caller reported worked)
 
 go_closed : (s : AbstractPool) (who : CallerNo) (c : ConnNo) (sent : ℕ) (end : EndCause) (heard : List StreamNo) → IsFit s who (Closed c sent end heard) → GoAll s who (Closed c sent end heard)
@@ -195,8 +195,8 @@ go_closed s who c sent end heard fit =
     let t : AbstractPool = sent_noted s c sent in
     let act : Act = Closed c sent end heard in
     let first : numbered c.0 t.connections ≡ Some (with_sent sent x) = edit_here c.0 (with_sent sent) s.connections x v.1 in
-    one_goes who act c.0 (λ a b. IsGivenUp (with_sent sent a) b) x s.connections (after_closed t c end act).connections v.1
-    (one_after IsGivenUp c.0 (with_sent sent) s.connections (after_closed t c end act).connections x (gone_closed t c end act (with_sent sent x) first))
+    one_goes who act c.0 (λ a b. IsGivenUp (with_sent sent a) b) x s.connections (after_closed t c end heard).connections v.1
+    (one_after IsGivenUp c.0 (with_sent sent) s.connections (after_closed t c end heard).connections x (gone_closed t c end heard (with_sent sent x) first))
     (closed_apart c sent end heard) (λ y given_up. closed_goes who c sent end heard x y v.2.0.caller (closed_live x end v.2.1) given_up)
 
 -- ---- any act

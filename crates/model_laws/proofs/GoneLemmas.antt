@@ -1,5 +1,5 @@
 -- A connection never goes back, and one that is gone stays gone.
-use Rattle.std.proofs.Common.{◌≡◌, ◌≤◌, ℕ, List, arith, Option, Some, None, Bool, true, false, refl, sym, ap, subst, IsSomeAnd}
+use Rattle.std.proofs.Common.{◌≡◌, ◌≤◌, ℕ, List, arith, Option, Some, None, Bool, false, sym, ap, subst, IsSomeAnd}
 use Rattle.std.proofs.lemmas.Bool.{eqb-true}
 use Rattle.net_base.specs.declared.end_cause.EndCause.{EndCause}
 use Rattle.net_base.specs.declared.numbers.CallerNo.{CallerNo}
@@ -78,7 +78,7 @@ gone_behind s who c sent cause heard fit =
     let act : Act = Closed c sent cause heard in
     let v = value_and (numbered c.0 s.connections) (λ x. MayClose x cause) fit in
     let first : numbered c.0 t.connections ≡ Some (with_sent sent v.0) = edit_here c.0 (with_sent sent) s.connections v.0 v.1 in
-    gone_edited c.0 (with_sent sent v.0) t.connections (after_closed t c cause act).connections (gone_closed t c cause act (with_sent sent v.0) first)
+    gone_edited c.0 (with_sent sent v.0) t.connections (after_closed t c cause heard).connections (gone_closed t c cause heard (with_sent sent v.0) first)
 
 pub closed_ones_are_gone : ClosedOnesAreGone
 unfolding after

@@ -14,19 +14,17 @@ use Rattle.net_base.specs.declared.numbers.Moment.{Moment}
 use Rattle.net_base.specs.declared.numbers.StreamNo.{StreamNo}
 use Rattle.partition_keys.specs.declared.group.GroupKey.{GroupKey}
 use Rattle.model_changes.specs.Connections.{started_by, streams_started, is_start, is_start_of, is_reset_of, closing, idle_from, has_run_out, idle_if_run_out, other_streams, without_stream, without_start, without_exchange, new_connection, dialing_by, suits, opened_with, refused_with, after_opened, stream_after, with_start, with_taken, kept_open, without_reset, after_answer, excluding, after_large_answer, streams_left, draining, draining_or_closing, going_away, gone, after_shutdown}
-use Rattle.model_laws.specs.MoveLaws.{may_move}
 use Rattle.model_laws.proofs.AssignedLemmas.{place_parts}
 use Rattle.model_laws.proofs.StayLemmas.{stream_rises}
 use Rattle.model_laws.specs.LimitLaws.{HasPlace}
 use Rattle.model_laws.specs.Sound.{HasNoStreams, IsOrderly}
 use Rattle.model_authority.proofs.PhaseLemmas.{follows, excludes}
-use Rattle.model_steps.specs.After.{excluding_moved, connection_after_answer}
-use Rattle.model_steps.specs.Answered.{lease_at}
+use Rattle.net_base.specs.declared.response.Response.{Response}
+use Rattle.model_steps.specs.Answered.{lease_at, is_misdirected, excluding_misdirected, answered_connection}
 use Rattle.model_authority.specs.Lists.{is_nil}
 use Rattle.model_authority.specs.Statuses.{is_wanted, is_dialing, is_open, is_draining, is_closing, is_gone, is_opening, is_h2, shows, speaks_h2}
 use Rattle.model_authority.specs.Ways.{has_capacity}
 use Rattle.model_values.specs.declared.config.Config.{Config}
-use Rattle.model_values.specs.declared.entry.Act.{Act}
 use Rattle.model_values.specs.declared.order.OrderMark.{OrderMark}
 use Rattle.model_values.specs.declared.order.OrderMark.TheVariants as mark
 use Rattle.model_values.specs.declared.state.AbstractPool.{AbstractPool}
@@ -159,17 +157,16 @@ orderly_after_answer config now r keep c h =
     let fewer : IsOrderly config less = orderly_fewer config c less refl refl refl refl (ordered_filter (λ m. not (is_reset_of r m)) c.orders) (omega arith) h in
     orderly_kept_open config keep (without_stream now r less) (orderly_without_stream config now r less fewer)
 
-orderly_excluding : (config : Config) (act : Act) (lease : Option Exchange) (c : Connection) → IsOrderly config c → IsOrderly config (excluding_moved act lease c)
-unfolding excluding_moved
-orderly_excluding config act None c h = h
-orderly_excluding config act (Some e) c h =
+orderly_excluding : (config : Config) (response : Response) (lease : Option Exchange) (c : Connection) → IsOrderly config c → IsOrderly config (excluding_misdirected response lease c)
+orderly_excluding config response None c h = h
+orderly_excluding config response (Some e) c h =
     let without : Connection = excluding e.ask.request.origin c in
-    cond_both (may_move e act) without c (IsOrderly config) (λ t. orderly_same config c without refl refl refl refl refl refl h) (λ f. h)
+    cond_both (is_misdirected response e) without c (IsOrderly config) (λ t. orderly_same config c without refl refl refl refl refl refl h) (λ f. h)
 
-pub orderly_answered : (config : Config) (s : AbstractPool) (conn : ConnNo) (r : StreamNo) (keep : Bool) (act : Act) (c : Connection) → IsOrderly config c →
-    IsOrderly config (connection_after_answer s conn r keep act c)
-orderly_answered config s conn r keep act c h =
-    orderly_after_answer config s.latest r keep (excluding_moved act (lease_at s conn r) c) (orderly_excluding config act (lease_at s conn r) c h)
+pub orderly_answered : (config : Config) (s : AbstractPool) (conn : ConnNo) (r : StreamNo) (response : Response) (keep : Bool) (c : Connection) → IsOrderly config c →
+    IsOrderly config (answered_connection s.latest r response keep (lease_at s conn r) c)
+orderly_answered config s conn r response keep c h =
+    orderly_after_answer config s.latest r keep (excluding_misdirected response (lease_at s conn r) c) (orderly_excluding config response (lease_at s conn r) c h)
 
 pub orderly_after_too_large : (config : Config) (now : Moment) (r : StreamNo) (c : Connection) → IsOrderly config c → IsOrderly config (after_large_answer now r c)
 unfolding after_large_answer

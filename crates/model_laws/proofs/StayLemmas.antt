@@ -9,14 +9,12 @@ use Rattle.net_base.specs.declared.numbers.ExchangeNo.{ExchangeNo}
 use Rattle.net_base.specs.declared.numbers.Moment.{Moment}
 use Rattle.net_base.specs.declared.numbers.StreamNo.{StreamNo}
 use Rattle.model_changes.specs.Connections.{closing, idle_from, has_run_out, idle_if_run_out, other_streams, is_start, is_start_of, without_stream, without_start, without_exchange, dialing_by, suits, opened_with, refused_with, after_opened, stream_after, with_start, kept_open, without_reset, after_answer, excluding, after_large_answer, streams_left, draining, draining_or_closing, going_away, gone, after_shutdown}
-use Rattle.model_laws.specs.MoveLaws.{may_move}
 use Rattle.model_histories.proofs.EditLemmas.{edit_at, map_at, append_at}
-use Rattle.model_steps.specs.After.{excluding_moved, connection_after_answer}
-use Rattle.model_steps.specs.Answered.{lease_at}
+use Rattle.net_base.specs.declared.response.Response.{Response}
+use Rattle.model_steps.specs.Answered.{lease_at, is_misdirected, excluding_misdirected, answered_connection}
 use Rattle.model_authority.proofs.PhaseLemmas.{follows, excludes, or_else, stage_most, stage_before_closing}
 use Rattle.model_authority.specs.Lists.{numbered, edit, is_nil}
 use Rattle.model_authority.specs.Statuses.{stage_of, is_wanted, is_dialing, is_open, is_draining, is_closing, is_gone, is_busy, speaks_h2}
-use Rattle.model_values.specs.declared.entry.Act.{Act}
 use Rattle.model_values.specs.declared.order.OrderMark.TheVariants as mark
 use Rattle.model_values.specs.declared.state.AbstractPool.{AbstractPool}
 use Rattle.model_values.specs.declared.state.Connection.{Connection}
@@ -115,17 +113,16 @@ stays_after_answer now r keep c =
     let k : Stays c left = stays_trans c less left (stays_phase c less refl refl) (stays_without_stream now r less) in
     stays_trans c left (kept_open keep left) k (stays_kept_open keep left)
 
-stays_excluding : (act : Act) (lease : Option Exchange) (c : Connection) → Stays c (excluding_moved act lease c)
-unfolding excluding_moved
-stays_excluding act None c = stays_same c
-stays_excluding act (Some e) c =
+stays_excluding : (response : Response) (lease : Option Exchange) (c : Connection) → Stays c (excluding_misdirected response lease c)
+stays_excluding response None c = stays_same c
+stays_excluding response (Some e) c =
     let without : Connection = excluding e.ask.request.origin c in
-    cond_both (may_move e act) without c (Stays c) (λ t. stays_phase c without refl refl) (λ f. stays_same c)
+    cond_both (is_misdirected response e) without c (Stays c) (λ t. stays_phase c without refl refl) (λ f. stays_same c)
 
-pub stays_answered : (s : AbstractPool) (conn : ConnNo) (r : StreamNo) (keep : Bool) (act : Act) (c : Connection) → Stays c (connection_after_answer s conn r keep act c)
-stays_answered s conn r keep act c =
-    let moved : Connection = excluding_moved act (lease_at s conn r) c in
-    stays_trans c moved (after_answer s.latest r keep moved) (stays_excluding act (lease_at s conn r) c) (stays_after_answer s.latest r keep moved)
+pub stays_answered : (s : AbstractPool) (conn : ConnNo) (r : StreamNo) (response : Response) (keep : Bool) (c : Connection) → Stays c (answered_connection s.latest r response keep (lease_at s conn r) c)
+stays_answered s conn r response keep c =
+    let moved : Connection = excluding_misdirected response (lease_at s conn r) c in
+    stays_trans c moved (after_answer s.latest r keep moved) (stays_excluding response (lease_at s conn r) c) (stays_after_answer s.latest r keep moved)
 
 pub stays_after_too_large : (now : Moment) (r : StreamNo) (c : Connection) → Stays c (after_large_answer now r c)
 unfolding after_large_answer
