@@ -1,5 +1,5 @@
 -- How far an exchange and a connection are.
-use Rattle.std.specs.Prelude.{◌==◌, ◌&&◌, not, Bool, true, false, Option, Some, None}
+use Rattle.std.specs.Prelude.{◌==◌, ◌&&◌, ◌||◌, not, Bool, true, false, ℕ, Option, Some, None}
 use Rattle.net_base.specs.declared.identity.Identity.{Identity}
 use Rattle.net_base.specs.declared.numbers.ConnNo.{ConnNo}
 use Rattle.net_base.specs.declared.numbers.StreamNo.{StreamNo}
@@ -73,71 +73,40 @@ is_leased_elsewhere Waiting = false
 is_leased_elsewhere (Leased conn stream by handed) = is_elsewhere by
 is_leased_elsewhere (Ended outcome) = false
 
+-- the phases of a connection in their order
+abbrev pub stage_of : Phase → ℕ
+stage_of Wanted = 0
+stage_of Dialing = 1
+stage_of Open = 2
+stage_of Draining = 3
+stage_of Closing = 4
+stage_of Gone = 5
+
 abbrev pub is_wanted : Phase → Bool
-is_wanted Wanted = true
-is_wanted Dialing = false
-is_wanted Open = false
-is_wanted Draining = false
-is_wanted Closing = false
-is_wanted Gone = false
+is_wanted p = stage_of p == stage_of Wanted
 
 abbrev pub is_dialing : Phase → Bool
-is_dialing Wanted = false
-is_dialing Dialing = true
-is_dialing Open = false
-is_dialing Draining = false
-is_dialing Closing = false
-is_dialing Gone = false
+is_dialing p = stage_of p == stage_of Dialing
 
 abbrev pub is_open : Phase → Bool
-is_open Wanted = false
-is_open Dialing = false
-is_open Open = true
-is_open Draining = false
-is_open Closing = false
-is_open Gone = false
+is_open p = stage_of p == stage_of Open
 
 abbrev pub is_draining : Phase → Bool
-is_draining Wanted = false
-is_draining Dialing = false
-is_draining Open = false
-is_draining Draining = true
-is_draining Closing = false
-is_draining Gone = false
+is_draining p = stage_of p == stage_of Draining
 
 abbrev pub is_closing : Phase → Bool
-is_closing Wanted = false
-is_closing Dialing = false
-is_closing Open = false
-is_closing Draining = false
-is_closing Closing = true
-is_closing Gone = false
+is_closing p = stage_of p == stage_of Closing
 
 abbrev pub is_gone : Phase → Bool
-is_gone Wanted = false
-is_gone Dialing = false
-is_gone Open = false
-is_gone Draining = false
-is_gone Closing = false
-is_gone Gone = true
+is_gone p = stage_of p == stage_of Gone
 
--- it is open, draining or closing, which only one that was opened becomes
+-- only one that was opened becomes so
 abbrev pub is_busy : Phase → Bool
-is_busy Wanted = false
-is_busy Dialing = false
-is_busy Open = true
-is_busy Draining = true
-is_busy Closing = true
-is_busy Gone = false
+is_busy p = is_open p || is_draining p || is_closing p
 
--- an opening: a connection that isn't up yet
+-- it isn't up yet
 abbrev pub is_opening : Phase → Bool
-is_opening Wanted = true
-is_opening Dialing = true
-is_opening Open = false
-is_opening Draining = false
-is_opening Closing = false
-is_opening Gone = false
+is_opening p = is_wanted p || is_dialing p
 
 abbrev pub is_h2 : Proto → Bool
 is_h2 H1 = false

@@ -1,13 +1,13 @@
 -- What a worker may say at a port by what it holds is what is legal for it at the state.
 use Rattle.std.proofs.Common.{◌≡◌, ◌≤◌, ◌↔◌, ℕ, Option, Some, None, Bool, true, false, cond, refl, sym, ap, subst, ◌∙◌, IsTrue, IsSomeAnd}
 use Rattle.std.specs.Prelude.{◌==◌, ◌||◌}
-use Rattle.std.proofs.lemmas.Bool.{and_parts, and_from, eqb-true, eq-eqb}
+use Rattle.std.proofs.lemmas.Bool.{and_parts, and_from, eqb-true, eq-eqb, both_ways}
 use Rattle.net_base.specs.declared.end_cause.EndCause.{EndCause}
 use Rattle.net_base.specs.declared.end_cause.EndCause.TheVariants as cause
 use Rattle.net_base.specs.declared.numbers.CallerNo.{CallerNo}
 use Rattle.net_base.specs.declared.numbers.ConnNo.{ConnNo}
 use Rattle.model_histories.proofs.HeldLemmas.{report_phase}
-use Rattle.model_histories.proofs.KeepLemmas.{dialing_only}
+use Rattle.model_authority.proofs.PhaseLemmas.{excludes}
 use Rattle.model_histories.proofs.OwnLemmas.{busy_live, reported_in, closed_live}
 use Rattle.model_histories.proofs.WorkingLemmas.{holds_as_state_says}
 use Rattle.model_histories.specs.Histories.{IsHistory, run}
@@ -70,7 +70,7 @@ is_dialed true b live not_opened = refl
 is_dialed false b live not_opened = absurd (not_opened live)
 
 not_opened_yet : (p : Phase) → IsTrue (is_dialing p) → IsTrue (is_busy p) → ⊥
-not_opened_yet p dialing opened = let not_opened = (dialing_only p dialing).1 in absurd cc
+not_opened_yet p dialing opened = both_ways (is_busy p) (excludes is_dialing is_busy refl p dialing) opened
 
 -- ---- reports
 

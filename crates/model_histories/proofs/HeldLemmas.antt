@@ -1,18 +1,19 @@
 -- What one entry leaves of what callers hold of one connection.
 use Rattle.std.proofs.Common.{◌≡◌, ℕ, List, [], Option, Some, None, Bool, true, false, cond, inl, inr, refl, sym, ap, subst, ◌∙◌}
 use Rattle.std.specs.Prelude.{◌==◌, ◌&&◌, ◌||◌}
-use Rattle.std.proofs.lemmas.Bool.{cases_eq, eq-eqb, ne_eqb, cond-true, cond-false, cond_both, and_right}
+use Rattle.std.proofs.lemmas.Bool.{cases_eq, eq-eqb, ne_eqb, cond-true, cond-false, cond_both, and_right, both_ways}
 use Rattle.net_base.specs.declared.end_cause.EndCause.{EndCause}
 use Rattle.net_base.specs.declared.numbers.CallerNo.{CallerNo}
 use Rattle.net_base.specs.declared.numbers.ConnNo.{ConnNo}
 use Rattle.net_base.specs.declared.numbers.StreamNo.{StreamNo}
 use Rattle.net_base.specs.declared.target.Target.{Target}
 use Rattle.model_changes.specs.Connections.{dialing_by, with_taken, with_sent}
-use Rattle.model_histories.proofs.KeepLemmas.{busy_up, wanted_only, Keeps, keeps_up, KeptAt, kept_refl}
+use Rattle.model_histories.proofs.KeepLemmas.{Keeps, keeps_up, KeptAt, kept_refl}
 use Rattle.model_histories.proofs.LeaseLemmas.{IsUp}
 use Rattle.model_histories.proofs.OwnLemmas.{IsOneEdit, MayWorkBy, IsReportedIn, IsGivenUp, busy_live}
 use Rattle.model_histories.specs.Port.{Held, is_opening_report, held_after}
 use Rattle.model_histories.specs.Working.{works_on, holding, held_of}
+use Rattle.model_authority.proofs.PhaseLemmas.{follows, excludes}
 use Rattle.model_authority.specs.Lists.{numbered}
 use Rattle.model_authority.specs.Statuses.{is_wanted, is_dialing, is_busy, is_opening}
 use Rattle.model_values.specs.declared.entry.Act.{Act}
@@ -60,14 +61,9 @@ held_keeps w x y k =
 held_none : (w : CallerNo) (c : Connection) → (is_dialing c.phase || is_busy c.phase) ≡ false → held_of w (Some c) ≡ None
 held_none w c idle = cond-false (works_on w c) (Some (holding c)) None (and_right (c.caller.0 == w.0) (is_dialing c.phase || is_busy c.phase) idle)
 
-wanted_idle : (p : Phase) → is_wanted p ≡ true → (is_dialing p || is_busy p) ≡ false
-wanted_idle p h =
-    let only = wanted_only p h in
-    ap (λ b. b || is_busy p) only.0 ∙ only.1
-
 held_kept : (w : CallerNo) (o p : Option Connection) → KeptAt o p → held_of w p ≡ held_of w o
 held_kept w None None k = refl
-held_kept w None (Some y) k = held_none w y (wanted_idle y.phase k.wanted)
+held_kept w None (Some y) k = held_none w y (excludes is_wanted (λ p. is_dialing p || is_busy p) refl y.phase k.wanted)
 held_kept w (Some x) None k = absurd k
 held_kept w (Some x) (Some y) k = held_keeps w x y k
 
@@ -136,7 +132,7 @@ worked_held who w c act x y before later live busy left =
     (ap (λ b. cond b (Some (holding y)) None) (works_own w who y later (busy_live y.phase busy)))
 
 busy_fresh : (y : Connection) → is_busy y.phase ≡ true → IsFresh (Some y)
-busy_fresh y busy w = let not_wanted = (busy_up y.phase busy).0 in absurd cc
+busy_fresh y busy w = absurd (both_ways (is_wanted y.phase) (excludes is_busy is_wanted refl y.phase busy) w)
 
 -- ---- dialing
 
@@ -149,12 +145,12 @@ pub dial_goes : (who : CallerNo) (conn : ConnNo) (target : Target) (x : Connecti
     Goes who (Dial conn target) conn.0 (Some x) (Some (dialing_by who x))
 dial_goes who conn target x wanted fresh = record {
   held = λ w c e.
-      let none : held_of w (Some x) ≡ None = held_none w x (wanted_idle x.phase wanted) in
+      let none : held_of w (Some x) ≡ None = held_none w x (excludes is_wanted (λ p. is_dialing p || is_busy p) refl x.phase wanted) in
       let f = fresh wanted in
       dial_held (who.0 == w.0) x.sent x.started (held_of w (Some x)) (held_after c (held_of w (Some x)) (Dial conn target)) f.0 f.1 none
       (here_by conn c (held_as 0 false []) (held_of w (Some x)) e);
   fresh = λ f w. absurd cc;
-  up = λ u. let opening = (wanted_only x.phase wanted).2 in absurd cc;
+  up = λ u. absurd (both_ways (is_opening x.phase) u (follows is_wanted is_opening refl x.phase wanted));
 }
 
 -- ---- orders, reports and the end
@@ -192,7 +188,7 @@ report_goes who conn sent r x y caller reported worked =
           (here_by conn c (held_as sent (is_busy x.phase || is_opening_report r) x.started) (Some (holding x)) e
           ∙ held_left sent y.sent (is_busy x.phase || is_opening_report r) (is_busy y.phase) x.started y.started (sym worked.sent) (phase.1 ∙ sym worked.busy) (sym worked.started));
       fresh = λ f. busy_fresh y worked.busy;
-      up = λ u. (busy_up y.phase worked.busy).2;
+      up = λ u. excludes is_busy is_opening refl y.phase worked.busy;
     }
 
 none_both : (b : Bool) → none_held ≡ cond b None None

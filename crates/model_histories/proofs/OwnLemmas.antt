@@ -1,7 +1,7 @@
 -- What a worker's own entry leaves of its connection, and of the others.
 use Rattle.std.proofs.Common.{◌≡◌, ℕ, List, [], ◌∷◌, Option, Some, None, Bool, true, false, cond, refl, sym, ap, subst, ◌∙◌, is_some}
 use Rattle.std.specs.Prelude.{◌&&◌, ◌||◌, not}
-use Rattle.std.proofs.lemmas.Bool.{cond_both, or_from}
+use Rattle.std.proofs.lemmas.Bool.{cond_both}
 use Rattle.net_base.specs.declared.end_cause.EndCause.{EndCause}
 use Rattle.net_base.specs.declared.end_cause.EndCause.TheVariants as cause
 use Rattle.net_base.specs.declared.identity.Identity.{Identity}
@@ -13,18 +13,18 @@ use Rattle.net_base.specs.declared.target.Via.{Via}
 use Rattle.net_base.specs.declared.target.Via.TheVariants as via
 use Rattle.partition_keys.specs.declared.group.GroupKey.{GroupKey}
 use Rattle.model_changes.specs.Connections.{closing, without_stream, suits, opened_with, refused_with, after_opened, with_limit, after_answer, excluding, after_large_answer, going_away, gone}
-use Rattle.model_laws.specs.MoveLaws.{may_move}
 use Rattle.model_histories.proofs.EditLemmas.{edit_here, edit_other}
-use Rattle.model_histories.proofs.KeepLemmas.{busy_up, dialing_only, Keeps, keeps_refl, keeps_trans, keeps_phase, keeps_up, keeps_without_stream, keeps_after_answer, keeps_after_too_large, keeps_after_goaway}
+use Rattle.model_histories.proofs.KeepLemmas.{Keeps, keeps_refl, keeps_trans, keeps_phase, keeps_up, keeps_without_stream, keeps_after_answer, keeps_after_too_large, keeps_after_goaway}
 use Rattle.model_histories.specs.Legal.{MayReport, MayClose}
 use Rattle.model_histories.specs.Port.{is_opening_report}
-use Rattle.model_steps.specs.After.{excluding_moved, connection_after_answer, after_leases, after_alt_seen, after_report}
+use Rattle.net_base.specs.declared.response.Response.{Response}
+use Rattle.model_steps.specs.After.{after_alt_seen, after_report}
 use Rattle.model_steps.specs.Opened.{after_useless, after_open_of, after_open}
-use Rattle.model_steps.specs.Answered.{lease_at, after_answered}
-use Rattle.model_steps.specs.Lost.{is_dial_failed, after_failed_dial, after_closed}
+use Rattle.model_steps.specs.Answered.{lease_at, after_answered, is_misdirected, excluding_misdirected, answered_connection}
+use Rattle.model_steps.specs.Lost.{is_dial_failed, after_failed_dial, after_closed, after_lost}
+use Rattle.model_authority.proofs.PhaseLemmas.{excludes}
 use Rattle.model_authority.specs.Lists.{numbered, edit}
 use Rattle.model_authority.specs.Statuses.{is_dialing, is_closing, is_gone, is_busy, is_opening}
-use Rattle.model_values.specs.declared.entry.Act.{Act}
 use Rattle.model_values.specs.declared.order.OrderMark.TheVariants as mark
 use Rattle.model_values.specs.declared.outcome.Outcome.{Outcome}
 use Rattle.model_values.specs.declared.outcome.Outcome.TheVariants as outcome
@@ -84,8 +84,7 @@ worked_refused : (id : Identity) (c : Connection) → is_dialing c.phase ≡ tru
 unfolding closing
 worked_refused id c dialing =
     let shown : Connection = record c { identity = Some id } in
-    let only = dialing_only c.phase dialing in
-    let stays : (is_closing c.phase || is_gone c.phase) ≡ false = or_from (is_closing c.phase) (is_gone c.phase) only.2 only.3 in
+    let stays : (is_closing c.phase || is_gone c.phase) ≡ false = excludes is_dialing (λ p. is_closing p || is_gone p) refl c.phase dialing in
     cond_both (is_closing c.phase || is_gone c.phase) shown (record shown { phase = Closing; orders = mark.Close ∷ [] }) (MayWorkBy c)
     (λ t. absurd cc) (λ f. record { caller = refl; sent = refl; started = refl; busy = refl })
 
@@ -95,18 +94,17 @@ worked_opened is_shut now id c dialing =
     cond_both (not is_shut && suits c.group id) (opened_with now id c) (refused_with id c) (MayWorkBy c)
     (λ t. record { caller = refl; sent = refl; started = refl; busy = refl }) (λ f. worked_refused id c dialing)
 
-keeps_excluding : (act : Act) (lease : Option Exchange) (c : Connection) → Keeps c (excluding_moved act lease c)
-unfolding excluding_moved
-keeps_excluding act None c = keeps_refl c
-keeps_excluding act (Some e) c =
+keeps_excluding : (response : Response) (lease : Option Exchange) (c : Connection) → Keeps c (excluding_misdirected response lease c)
+keeps_excluding response None c = keeps_refl c
+keeps_excluding response (Some e) c =
     let without : Connection = excluding e.ask.request.origin c in
-    cond_both (may_move e act) without c (Keeps c) (λ t. keeps_phase c without refl refl refl refl) (λ f. keeps_refl c)
+    cond_both (is_misdirected response e) without c (Keeps c) (λ t. keeps_phase c without refl refl refl refl) (λ f. keeps_refl c)
 
-keeps_answered : (s : AbstractPool) (conn : ConnNo) (r : StreamNo) (keep : Bool) (act : Act) (c : Connection) → is_opening c.phase ≡ false →
-    Keeps c (connection_after_answer s conn r keep act c)
-keeps_answered s conn r keep act c up =
-    let moved : Connection = excluding_moved act (lease_at s conn r) c in
-    let k : Keeps c moved = keeps_excluding act (lease_at s conn r) c in
+keeps_answered : (s : AbstractPool) (conn : ConnNo) (r : StreamNo) (response : Response) (keep : Bool) (c : Connection) → is_opening c.phase ≡ false →
+    Keeps c (answered_connection s.latest r response keep (lease_at s conn r) c)
+keeps_answered s conn r response keep c up =
+    let moved : Connection = excluding_misdirected response (lease_at s conn r) c in
+    let k : Keeps c moved = keeps_excluding response (lease_at s conn r) c in
     keeps_trans c moved (after_answer s.latest r keep moved) k (keeps_after_answer s.latest r keep moved (keeps_up c moved k up))
 
 -- a connection is dialed where it is reported to be opened, and was opened where anything else is reported
@@ -125,31 +123,31 @@ reported_in c (report.Goaway last) h = h
 reported_in c (report.AltSeen origin alt) h = h
 
 -- a report keeps the connection its worker's
-pub worked_report : (s : AbstractPool) (conn : ConnNo) (act : Act) (r : Report) (x : Connection) → numbered conn.0 s.connections ≡ Some x → IsReportedIn x.phase r →
-    IsOneEdit MayWorkBy conn.0 x s.connections (after_report s conn act r).connections
+pub worked_report : (s : AbstractPool) (conn : ConnNo) (r : Report) (x : Connection) → numbered conn.0 s.connections ≡ Some x → IsReportedIn x.phase r →
+    IsOneEdit MayWorkBy conn.0 x s.connections (after_report s conn r).connections
 unfolding after_answered after_open
-worked_report s conn act (report.Opened id) x is_item h =
+worked_report s conn (report.Opened id) x is_item h =
     let f : Connection → Connection = after_opened (is_some s.shutdown) s.latest id in
     subst (λ o. IsOneEdit MayWorkBy conn.0 x s.connections (after_open_of s conn id o).connections) (sym is_item)
     (one_edit MayWorkBy conn.0 f s.connections x is_item (worked_opened (is_some s.shutdown) s.latest id x h))
-worked_report s conn act (report.Limit n) x is_item h =
+worked_report s conn (report.Limit n) x is_item h =
     one_edit MayWorkBy conn.0 (with_limit n) s.connections x is_item (worked_keeps x (with_limit n x) (keeps_phase x (with_limit n x) refl refl refl refl) h)
-worked_report s conn act (report.Answered r response keep alt proof) x is_item h =
-    let f : Connection → Connection = connection_after_answer s conn r keep act in
-    one_edit MayWorkBy conn.0 f s.connections x is_item (worked_keeps x (f x) (keeps_answered s conn r keep act x (busy_up x.phase h).2) h)
-worked_report s conn act (report.Refused r) x is_item h =
+worked_report s conn (report.Answered r response keep alt proof) x is_item h =
+    let f : Connection → Connection = answered_connection s.latest r response keep (lease_at s conn r) in
+    one_edit MayWorkBy conn.0 f s.connections x is_item (worked_keeps x (f x) (keeps_answered s conn r response keep x (excludes is_busy is_opening refl x.phase h)) h)
+worked_report s conn (report.Refused r) x is_item h =
     one_edit MayWorkBy conn.0 (without_stream s.latest r) s.connections x is_item (worked_keeps x (without_stream s.latest r x) (keeps_without_stream s.latest r x) h)
-worked_report s conn act (report.Reset r code) x is_item h =
+worked_report s conn (report.Reset r code) x is_item h =
     one_edit MayWorkBy conn.0 (without_stream s.latest r) s.connections x is_item (worked_keeps x (without_stream s.latest r x) (keeps_without_stream s.latest r x) h)
-worked_report s conn act (report.TooLarge r) x is_item h =
+worked_report s conn (report.TooLarge r) x is_item h =
     let f : Connection → Connection = after_large_answer s.latest r in
-    one_edit MayWorkBy conn.0 f s.connections x is_item (worked_keeps x (f x) (keeps_after_too_large s.latest r x (busy_up x.phase h).2) h)
-worked_report s conn act (report.StreamClosed r) x is_item h =
+    one_edit MayWorkBy conn.0 f s.connections x is_item (worked_keeps x (f x) (keeps_after_too_large s.latest r x (excludes is_busy is_opening refl x.phase h)) h)
+worked_report s conn (report.StreamClosed r) x is_item h =
     one_edit MayWorkBy conn.0 (without_stream s.latest r) s.connections x is_item (worked_keeps x (without_stream s.latest r x) (keeps_without_stream s.latest r x) h)
-worked_report s conn act (report.Goaway last) x is_item h =
+worked_report s conn (report.Goaway last) x is_item h =
     let f : Connection → Connection = going_away s.latest conn s.exchanges last in
-    one_edit MayWorkBy conn.0 f s.connections x is_item (worked_keeps x (f x) (keeps_after_goaway s.latest conn s.exchanges last x (busy_up x.phase h).2) h)
-worked_report s conn act (report.AltSeen origin alt) x is_item h =
+    one_edit MayWorkBy conn.0 f s.connections x is_item (worked_keeps x (f x) (keeps_after_goaway s.latest conn s.exchanges last x (excludes is_busy is_opening refl x.phase h)) h)
+worked_report s conn (report.AltSeen origin alt) x is_item h =
     subst (λ o. IsOneEdit MayWorkBy conn.0 x s.connections (after_alt_seen s origin alt o).connections) (sym is_item)
     (one_none MayWorkBy conn.0 s.connections x is_item (worked_keeps x x (keeps_refl x) h))
 
@@ -179,17 +177,17 @@ left_useless s conn g wanted_for how via.Direct x xs h = h
 left_useless s conn g wanted_for how (via.Alternative p) x xs h = h
 
 -- the end of a connection leaves it gone
-pub gone_closed : (s : AbstractPool) (conn : ConnNo) (end : EndCause) (act : Act) (x : Connection) → numbered conn.0 s.connections ≡ Some x →
-    IsOneEdit IsGivenUp conn.0 x s.connections (after_closed s conn end act).connections
+pub gone_closed : (s : AbstractPool) (conn : ConnNo) (end : EndCause) (heard : List StreamNo) (x : Connection) → numbered conn.0 s.connections ≡ Some x →
+    IsOneEdit IsGivenUp conn.0 x s.connections (after_closed s conn end heard).connections
 unfolding after_closed
-gone_closed s conn end act x is_item =
-    let left : AbstractPool = after_leases s conn act gone in
+gone_closed s conn end heard x is_item =
+    let left : AbstractPool = after_lost s conn end heard in
     cond_both (is_dial_failed end) (after_failed_dial left conn (numbered conn.0 s.connections)) left (λ (t : AbstractPool). IsOneEdit IsGivenUp conn.0 x s.connections t.connections)
     (λ f. by (numbered conn.0 s.connections)) (λ f. here)
   where
-    here : IsOneEdit IsGivenUp conn.0 x s.connections (after_leases s conn act gone).connections
+    here : IsOneEdit IsGivenUp conn.0 x s.connections (after_lost s conn end heard).connections
     here = one_edit IsGivenUp conn.0 gone s.connections x is_item refl
 
-    by : (o : Option Connection) → IsOneEdit IsGivenUp conn.0 x s.connections (after_failed_dial (after_leases s conn act gone) conn o).connections
+    by : (o : Option Connection) → IsOneEdit IsGivenUp conn.0 x s.connections (after_failed_dial (after_lost s conn end heard) conn o).connections
     by None = here
-    by (Some c) = left_useless (after_leases s conn act gone) conn c.group c.wanted_for (outcome.DialFault conn) c.group.target.via x s.connections here
+    by (Some c) = left_useless (after_lost s conn end heard) conn c.group c.wanted_for (outcome.DialFault conn) c.group.target.via x s.connections here

@@ -15,7 +15,7 @@ use Rattle.model_changes.specs.Connections.{closing, new_connection, dialing_by,
 use Rattle.model_histories.proofs.EditLemmas.{none_numbered, edit_here, each_replicate, each_one}
 use Rattle.model_histories.proofs.HeldLemmas.{IsFresh, Goes, kept_goes, one_goes, dial_goes, orders_goes, report_goes, closed_goes, dial_apart, orders_apart, report_apart, closed_apart}
 use Rattle.model_histories.proofs.HistoryLemmas.{AreStanding, each_standing}
-use Rattle.model_histories.proofs.KeepLemmas.{busy_up, open_busy, keeps_closing, keeps_with_start, keeps_after_shutdown, IsNew, AreKept, kept_same, kept_edit, kept_map, kept_append}
+use Rattle.model_histories.proofs.KeepLemmas.{keeps_closing, keeps_with_start, keeps_after_shutdown, IsNew, AreKept, kept_same, kept_edit, kept_map, kept_append}
 use Rattle.model_histories.proofs.LeaseLemmas.{IsUp, IsHandable, IsLeaseUp, AreLeasesUp, up_mono, up_after_act, kept_released}
 use Rattle.model_histories.proofs.OwnLemmas.{MayWorkBy, IsGivenUp, one_edit, one_after, reported_in, worked_report, closed_live, gone_closed}
 use Rattle.model_histories.specs.Histories.{opening, run_from, run}
@@ -27,8 +27,9 @@ use Rattle.model_settling.specs.Settling.{IsDue, can_use, is_idle}
 use Rattle.model_steps.specs.After.{noted, after_submit, after_cancel, after_reprioritise, after_preconnect, after_resolved, after_network, after_shut, after_dial, after_orders, after_expire, after_lapse, after_assign, wanted_connection, after_want_of, after_want, after_evict, sent_noted, after_act, after_report, after}
 use Rattle.model_steps.specs.Lost.{after_closed}
 use Rattle.model_authority.proofs.NumberLemmas.{value_and, and_value, passing}
+use Rattle.model_authority.proofs.PhaseLemmas.{excludes}
 use Rattle.model_authority.specs.Lists.{numbered, edit, is_nil}
-use Rattle.model_authority.specs.Statuses.{is_wanted, is_open}
+use Rattle.model_authority.specs.Statuses.{is_wanted, is_open, is_busy, is_opening}
 use Rattle.model_authority.specs.Ways.{group_for, has_capacity, has_way, is_usable}
 use Rattle.model_values.specs.declared.config.Config.{Config}
 use Rattle.model_values.specs.declared.entry.Act.{Act}
@@ -144,7 +145,7 @@ kept_assign s e c r way opened =
 kept_evict : (s : AbstractPool) (c : ConnNo) → IsSomeAnd (numbered c.0 s.connections) (λ y. IsTrue (is_open y.phase)) → AreKept s.connections (after_evict s c).connections
 unfolding after_evict
 kept_evict s c opened =
-    kept_edit c.0 closing s.connections (λ x is_item. keeps_closing x (busy_up x.phase (open_busy x.phase (open_at s c x opened is_item))).2)
+    kept_edit c.0 closing s.connections (λ x is_item. keeps_closing x (excludes is_open is_opening refl x.phase (open_at s c x opened is_item)))
 
 -- ---- acts of workers
 
@@ -183,8 +184,8 @@ go_report s who c sent r fit =
     let act : Act = Reported c sent r in
     let reported = reported_in x r v.2.1 in
     let first : numbered c.0 t.connections ≡ Some (with_sent sent x) = edit_here c.0 (with_sent sent) s.connections x v.1 in
-    one_goes who act c.0 (λ a b. MayWorkBy (with_sent sent a) b) x s.connections (after_report t c act r).connections v.1
-    (one_after MayWorkBy c.0 (with_sent sent) s.connections (after_report t c act r).connections x (worked_report t c act r (with_sent sent x) first reported))
+    one_goes who act c.0 (λ a b. MayWorkBy (with_sent sent a) b) x s.connections (after_report t c r).connections v.1
+    (one_after MayWorkBy c.0 (with_sent sent) s.connections (after_report t c r).connections x (worked_report t c r (with_sent sent x) first reported))
     (report_apart c sent r) (λ y worked. report_goes who c sent r x y v.2.0.caller reported worked)
 
 go_closed : (s : AbstractPool) (who : CallerNo) (c : ConnNo) (sent : ℕ) (end : EndCause) (heard : List StreamNo) → IsFit s who (Closed c sent end heard) → GoAll s who (Closed c sent end heard)
@@ -194,8 +195,8 @@ go_closed s who c sent end heard fit =
     let t : AbstractPool = sent_noted s c sent in
     let act : Act = Closed c sent end heard in
     let first : numbered c.0 t.connections ≡ Some (with_sent sent x) = edit_here c.0 (with_sent sent) s.connections x v.1 in
-    one_goes who act c.0 (λ a b. IsGivenUp (with_sent sent a) b) x s.connections (after_closed t c end act).connections v.1
-    (one_after IsGivenUp c.0 (with_sent sent) s.connections (after_closed t c end act).connections x (gone_closed t c end act (with_sent sent x) first))
+    one_goes who act c.0 (λ a b. IsGivenUp (with_sent sent a) b) x s.connections (after_closed t c end heard).connections v.1
+    (one_after IsGivenUp c.0 (with_sent sent) s.connections (after_closed t c end heard).connections x (gone_closed t c end heard (with_sent sent x) first))
     (closed_apart c sent end heard) (λ y given_up. closed_goes who c sent end heard x y v.2.0.caller (closed_live x end v.2.1) given_up)
 
 -- ---- any act
@@ -234,7 +235,7 @@ handable s who (Shutdown reply) fit = tt
 handable s who (Dial c target) fit = tt
 handable s who (Orders c sent orders) fit =
     let v = value_and (numbered c.0 s.connections) (λ x. IsWorkersEntry x who sent × MayTake x orders) fit in
-    subst IsUp (sym v.1) (busy_up v.0.phase v.2.1.0).2
+    subst IsUp (sym v.1) (excludes is_busy is_opening refl v.0.phase v.2.1.0)
 handable s who (Reported c sent report) fit = tt
 handable s who (Closed c sent cause heard) fit = tt
 handable s who (Expire e) fit = tt

@@ -36,7 +36,8 @@ use Rattle.model_settling.specs.Settling.{can_use, can_open, IsAssign, IsWant, I
 use Rattle.model_steps.specs.After.{noted}
 use Rattle.model_authority.proofs.NumberLemmas.{and_value, passing}
 use Rattle.model_authority.specs.Lists.{numbered}
-use Rattle.model_authority.specs.Statuses.{is_open, is_h2, shows, speaks_h2}
+use Rattle.model_authority.proofs.PhaseLemmas.{same_phase}
+use Rattle.model_authority.specs.Statuses.{stage_of, is_open, is_h2, shows, speaks_h2}
 use Rattle.model_authority.specs.Ways.{is_https, origin_target, alternative_target, alternatives_of, is_opportune, group_of, is_secured_for, shares_partition, is_direct, is_strong_for, may_share_alternative, goes_over, is_alternative, addresses_of, may_serve, is_coalesced, may_go_directly, may_go_by_alternative, may_coalesce, has_way, IsFirstWay, has_free_place, has_capacity, is_usable}
 use Rattle.model_values.specs.declared.config.Config.{Config}
 use Rattle.model_values.specs.declared.entry.Act.{Act}
@@ -47,8 +48,7 @@ use Rattle.model_values.specs.declared.entry.Way.TheVariants as way
 use Rattle.model_values.specs.declared.state.AbstractPool.{AbstractPool}
 use Rattle.model_values.specs.declared.state.Connection.{Connection}
 use Rattle.model_values.specs.declared.state.Exchange.{Exchange}
-use Rattle.model_values.specs.declared.state.Phase.{Phase}
-use Rattle.model_values.specs.declared.state.Phase.TheVariants.{Wanted, Dialing, Open, Draining, Closing, Gone}
+use Rattle.model_values.specs.declared.state.Phase.TheVariants.{Open}
 
 -- ---- what is due where an entry of the pool itself stands
 
@@ -99,20 +99,12 @@ usable_parts s x y h =
 
 -- ---- the phase
 
-open_phase : (p : Phase) → IsTrue (is_open p) → p ≡ Open
-open_phase Wanted h = absurd cc
-open_phase Dialing h = absurd cc
-open_phase Open h = refl
-open_phase Draining h = absurd cc
-open_phase Closing h = absurd cc
-open_phase Gone h = absurd cc
-
 pub only_open_ones_are_assigned : OnlyOpenOnesAreAssigned
 only_open_ones_are_assigned config h n e x c r by comes is =
     let s = state_at config h n in
     let a = assigned config h n e x c r by comes is in
     let u = usable_parts s a.exchange a.connection (usable s x c r by a) in
-    of_connection s x c r by (λ y. y.phase ≡ Open) a (open_phase a.connection.phase u.phase)
+    of_connection s x c r by (λ y. y.phase ≡ Open) a (same_phase a.connection.phase Open (eqb-true (stage_of a.connection.phase) 2 u.phase))
 
 -- ---- a place for a stream
 

@@ -14,7 +14,7 @@ use Rattle.net_base.specs.declared.target.Via.{Via}
 use Rattle.net_base.specs.declared.target.Via.TheVariants as via
 use Rattle.partition_keys.specs.declared.group.GroupKey.{GroupKey}
 use Rattle.model_changes.specs.Connections.{closing, without_stream, without_start, without_exchange, new_connection, dialing_by, after_opened, with_start, with_taken, with_limit, after_large_answer, going_away, gone, after_shutdown, with_sent}
-use Rattle.model_laws.proofs.PresentLemmas.{wanted_there, dialing_there, open_there, busy_there, out_phase, out_there, out_closing, out_without_stream, out_without_start, out_without_exchange, out_with_start, out_opened, out_after_too_large, out_after_goaway, out_gone, out_after_shutdown, out_answered, AddsNone, adds_same, adds_trans, adds_edit, adds_map}
+use Rattle.model_laws.proofs.PresentLemmas.{out_phase, out_there, out_closing, out_without_stream, out_without_start, out_without_exchange, out_with_start, out_opened, out_after_too_large, out_after_goaway, out_gone, out_after_shutdown, out_answered, AddsNone, adds_same, adds_trans, adds_edit, adds_map}
 use Rattle.model_laws.proofs.RoomLemmas.{AreWithin, within_adds, within_further, room_below, planned_within}
 use Rattle.model_histories.proofs.EditLemmas.{edit_here}
 use Rattle.model_histories.proofs.RunLemmas.{config-after}
@@ -24,13 +24,14 @@ use Rattle.model_histories.specs.Replies.{IsPreconnectReply, IsDial}
 use Rattle.model_settling.specs.Counts.{is_present_in, count_total, count_in_group}
 use Rattle.model_settling.specs.Room.{is_eligible, has_room, planned}
 use Rattle.model_settling.specs.Settling.{IsDue, IsAssign, IsWant, can_use, can_open}
-use Rattle.model_steps.specs.After.{noted, after_submit, released_lease, released_by, released, after_cancel, after_reprioritise, after_preconnect, after_resolved, after_network, after_shut, after_dial, after_orders, connection_after_answer, after_leases, after_alt_seen, after_report, after_expire, after_lapse, after_assign, wanted_connection, after_want_of, after_want, after_evict, sent_noted, after_act, after}
+use Rattle.model_steps.specs.After.{noted, after_submit, released_lease, released_by, released, after_cancel, after_reprioritise, after_preconnect, after_resolved, after_network, after_shut, after_dial, after_orders, after_alt_seen, after_report, after_expire, after_lapse, after_assign, wanted_connection, after_want_of, after_want, after_evict, sent_noted, after_act, after}
 use Rattle.model_steps.specs.Opened.{after_useless, after_open_of, after_open}
-use Rattle.model_steps.specs.Answered.{after_answered}
-use Rattle.model_steps.specs.Lost.{is_dial_failed, after_failed_dial, after_closed}
+use Rattle.model_steps.specs.Answered.{after_answered, answered_connection, lease_at}
+use Rattle.model_steps.specs.Lost.{is_dial_failed, after_failed_dial, after_closed, after_lost}
 use Rattle.model_authority.proofs.NumberLemmas.{value_and, passing}
+use Rattle.model_authority.proofs.PhaseLemmas.{excludes}
 use Rattle.model_authority.specs.Lists.{numbered, edit}
-use Rattle.model_authority.specs.Statuses.{is_wanted, is_open, is_gone}
+use Rattle.model_authority.specs.Statuses.{is_wanted, is_dialing, is_open, is_gone, is_busy}
 use Rattle.model_authority.specs.Ways.{target_of, group_of, group_for, has_capacity, has_way, is_usable}
 use Rattle.model_values.specs.declared.config.Config.{Config}
 use Rattle.model_values.specs.declared.entry.Act.{Act}
@@ -82,15 +83,15 @@ there_item cs c x is_item there y e = let same : x ≡ y = cc in subst (λ (z : 
 
 -- what is reported of is dialed, or was opened and isn't gone
 reported_there : (c : Connection) (r : Report) → MayReport c r → is_gone c.phase ≡ false
-reported_there c (report.Opened id) h = dialing_there c.phase h
-reported_there c (report.Limit n) h = busy_there c.phase h
-reported_there c (report.Answered r response keep alt proof) h = busy_there c.phase h.0
-reported_there c (report.Refused r) h = busy_there c.phase h.0
-reported_there c (report.Reset r code) h = busy_there c.phase h.0
-reported_there c (report.TooLarge r) h = busy_there c.phase h.0
-reported_there c (report.StreamClosed r) h = busy_there c.phase h.0
-reported_there c (report.Goaway last) h = busy_there c.phase h
-reported_there c (report.AltSeen origin alt) h = busy_there c.phase h
+reported_there c (report.Opened id) h = excludes is_dialing is_gone refl c.phase h
+reported_there c (report.Limit n) h = excludes is_busy is_gone refl c.phase h
+reported_there c (report.Answered r response keep alt proof) h = excludes is_busy is_gone refl c.phase h.0
+reported_there c (report.Refused r) h = excludes is_busy is_gone refl c.phase h.0
+reported_there c (report.Reset r code) h = excludes is_busy is_gone refl c.phase h.0
+reported_there c (report.TooLarge r) h = excludes is_busy is_gone refl c.phase h.0
+reported_there c (report.StreamClosed r) h = excludes is_busy is_gone refl c.phase h.0
+reported_there c (report.Goaway last) h = excludes is_busy is_gone refl c.phase h
+reported_there c (report.AltSeen origin alt) h = excludes is_busy is_gone refl c.phase h
 
 adds_open : (s : AbstractPool) (conn : ConnNo) (id : Identity) → IsThere s.connections conn → AddsNone s.connections (after_open s conn id).connections
 unfolding after_open
@@ -100,19 +101,19 @@ adds_open s conn id there = by (numbered conn.0 s.connections)
     by None = adds_same s.connections
     by (Some c) = adds_edit conn.0 (after_opened (is_some s.shutdown) s.latest id) s.connections (λ x is_item. out_opened (is_some s.shutdown) s.latest id x (there x is_item))
 
-adds_report : (s : AbstractPool) (conn : ConnNo) (act : Act) (r : Report) → IsThere s.connections conn → AddsNone s.connections (after_report s conn act r).connections
+adds_report : (s : AbstractPool) (conn : ConnNo) (r : Report) → IsThere s.connections conn → AddsNone s.connections (after_report s conn r).connections
 unfolding after_answered
-adds_report s conn act (report.Opened id) there = adds_open s conn id there
-adds_report s conn act (report.Limit n) there = adds_edit conn.0 (with_limit n) s.connections (λ x is_item. out_phase x (with_limit n x) refl refl)
-adds_report s conn act (report.Answered r response keep alt proof) there =
-    adds_edit conn.0 (connection_after_answer s conn r keep act) s.connections (λ x is_item. out_answered s conn r keep act x)
-adds_report s conn act (report.Refused r) there = adds_edit conn.0 (without_stream s.latest r) s.connections (λ x is_item. out_without_stream s.latest r x)
-adds_report s conn act (report.Reset r code) there = adds_edit conn.0 (without_stream s.latest r) s.connections (λ x is_item. out_without_stream s.latest r x)
-adds_report s conn act (report.TooLarge r) there = adds_edit conn.0 (after_large_answer s.latest r) s.connections (λ x is_item. out_after_too_large s.latest r x)
-adds_report s conn act (report.StreamClosed r) there = adds_edit conn.0 (without_stream s.latest r) s.connections (λ x is_item. out_without_stream s.latest r x)
-adds_report s conn act (report.Goaway last) there =
+adds_report s conn (report.Opened id) there = adds_open s conn id there
+adds_report s conn (report.Limit n) there = adds_edit conn.0 (with_limit n) s.connections (λ x is_item. out_phase x (with_limit n x) refl refl)
+adds_report s conn (report.Answered r response keep alt proof) there =
+    adds_edit conn.0 (answered_connection s.latest r response keep (lease_at s conn r)) s.connections (λ x is_item. out_answered s conn r response keep x)
+adds_report s conn (report.Refused r) there = adds_edit conn.0 (without_stream s.latest r) s.connections (λ x is_item. out_without_stream s.latest r x)
+adds_report s conn (report.Reset r code) there = adds_edit conn.0 (without_stream s.latest r) s.connections (λ x is_item. out_without_stream s.latest r x)
+adds_report s conn (report.TooLarge r) there = adds_edit conn.0 (after_large_answer s.latest r) s.connections (λ x is_item. out_after_too_large s.latest r x)
+adds_report s conn (report.StreamClosed r) there = adds_edit conn.0 (without_stream s.latest r) s.connections (λ x is_item. out_without_stream s.latest r x)
+adds_report s conn (report.Goaway last) there =
     adds_edit conn.0 (going_away s.latest conn s.exchanges last) s.connections (λ x is_item. out_after_goaway s.latest conn s.exchanges last x)
-adds_report s conn act (report.AltSeen origin alt) there = by (numbered conn.0 s.connections)
+adds_report s conn (report.AltSeen origin alt) there = by (numbered conn.0 s.connections)
   where
     by : (o : Option Connection) → AddsNone s.connections (after_alt_seen s origin alt o).connections
     by None = adds_same s.connections
@@ -124,20 +125,20 @@ adds_useless : (s : AbstractPool) (g : GroupKey) (wanted_for : Option ExchangeNo
 adds_useless s g wanted_for how via.Direct = adds_same s.connections
 adds_useless s g wanted_for how (via.Alternative p) = adds_same s.connections
 
-adds_closed : (s : AbstractPool) (conn : ConnNo) (end : EndCause) (act : Act) → AddsNone s.connections (after_closed s conn end act).connections
+adds_closed : (s : AbstractPool) (conn : ConnNo) (end : EndCause) (heard : List StreamNo) → AddsNone s.connections (after_closed s conn end heard).connections
 unfolding after_closed
-adds_closed s conn end act =
-    let left : AbstractPool = after_leases s conn act gone in
+adds_closed s conn end heard =
+    let left : AbstractPool = after_lost s conn end heard in
     cond_both (is_dial_failed end) (after_failed_dial left conn (numbered conn.0 s.connections)) left (λ (t : AbstractPool). AddsNone s.connections t.connections)
     (λ f. by (numbered conn.0 s.connections)) (λ f. here)
   where
-    here : AddsNone s.connections (after_leases s conn act gone).connections
+    here : AddsNone s.connections (after_lost s conn end heard).connections
     here = adds_edit conn.0 gone s.connections (λ x is_item. out_gone x)
 
-    by : (o : Option Connection) → AddsNone s.connections (after_failed_dial (after_leases s conn act gone) conn o).connections
+    by : (o : Option Connection) → AddsNone s.connections (after_failed_dial (after_lost s conn end heard) conn o).connections
     by None = here
     by (Some c) =
-        let left : AbstractPool = after_leases s conn act gone in
+        let left : AbstractPool = after_lost s conn end heard in
         let useless : AbstractPool = after_useless left c.group c.wanted_for (outcome.DialFault conn) c.group.target.via in
         adds_trans s.connections left.connections useless.connections here (adds_useless left c.group c.wanted_for (outcome.DialFault conn) c.group.target.via)
 
@@ -157,7 +158,7 @@ adds_dial : (s : AbstractPool) (who : CallerNo) (c : ConnNo) (target : Target) �
 unfolding after_dial
 adds_dial s who c target dial =
     let v = value_and (numbered c.0 s.connections) (λ x. IsTrue (is_wanted x.phase)) dial.lowest.passes in
-    let there : IsThere s.connections c = there_item s.connections c v.0 v.1 (wanted_there v.0.phase v.2) in
+    let there : IsThere s.connections c = there_item s.connections c v.0 v.1 (excludes is_wanted is_gone refl v.0.phase v.2) in
     adds_edit c.0 (dialing_by who) s.connections (λ x is_item. out_there x (dialing_by who x) refl (there x is_item))
 
 adds_reported : (s : AbstractPool) (who : CallerNo) (c : ConnNo) (sent : ℕ) (r : Report) → IsReply s who (Reported c sent r) →
@@ -167,13 +168,13 @@ adds_reported s who c sent r tells =
     let t : AbstractPool = sent_noted s c sent in
     let first : numbered c.0 t.connections ≡ Some (with_sent sent v.0) = edit_here c.0 (with_sent sent) s.connections v.0 v.1 in
     let there : IsThere t.connections c = there_item t.connections c (with_sent sent v.0) first (reported_there v.0 r v.2.1) in
-    adds_trans s.connections t.connections (after_report t c (Reported c sent r) r).connections (adds_sent s c sent) (adds_report t c (Reported c sent r) r there)
+    adds_trans s.connections t.connections (after_report t c r).connections (adds_sent s c sent) (adds_report t c r there)
 
 adds_ended : (s : AbstractPool) (who : CallerNo) (c : ConnNo) (sent : ℕ) (end : EndCause) (heard : List StreamNo) →
     AddsNone s.connections (after_act s who (Closed c sent end heard)).connections
 adds_ended s who c sent end heard =
     let t : AbstractPool = sent_noted s c sent in
-    adds_trans s.connections t.connections (after_closed t c end (Closed c sent end heard)).connections (adds_sent s c sent) (adds_closed t c end (Closed c sent end heard))
+    adds_trans s.connections t.connections (after_closed t c end heard).connections (adds_sent s c sent) (adds_closed t c end heard)
 
 -- ---- the pool itself
 
@@ -207,7 +208,7 @@ within_assign : (s : AbstractPool) (m : Moment) (e : ExchangeNo) (c : ConnNo) (r
 unfolding after_assign noted
 within_assign s m e c r way due within =
     let p = passing (can_use s due.exchange) s.connections c.0 due.lowest.passes in
-    let there : IsThere s.connections c = there_item s.connections c p.0 p.1 (open_there p.0.phase (open_usable s due.exchange p.0 p.2)) in
+    let there : IsThere s.connections c = there_item s.connections c p.0 p.1 (excludes is_open is_gone refl p.0.phase (open_usable s due.exchange p.0 p.2)) in
     let f : Connection → Connection = with_start s.config.last_stream e r in
     within_adds s.config s.connections (edit c.0 f s.connections) (adds_edit c.0 f s.connections (λ x is_item. out_with_start s.config.last_stream e r x (there x is_item))) within
 

@@ -1,5 +1,6 @@
 -- A connection never goes back, and one that is gone stays gone.
-use Rattle.std.proofs.Common.{◌≡◌, ◌≤◌, ℕ, List, arith, Option, Some, None, Bool, true, false, refl, sym, ap, subst, IsSomeAnd}
+use Rattle.std.proofs.Common.{◌≡◌, ◌≤◌, ℕ, List, arith, Option, Some, None, Bool, false, sym, ap, subst, IsSomeAnd}
+use Rattle.std.proofs.lemmas.Bool.{eqb-true}
 use Rattle.net_base.specs.declared.end_cause.EndCause.{EndCause}
 use Rattle.net_base.specs.declared.numbers.CallerNo.{CallerNo}
 use Rattle.net_base.specs.declared.numbers.ConnNo.{ConnNo}
@@ -10,7 +11,7 @@ use Rattle.model_laws.proofs.FitLemmas.{closes, IsFit, fit_stand}
 use Rattle.model_laws.proofs.StayLemmas.{TurnsAt}
 use Rattle.model_laws.proofs.TurnLemmas.{no_claim, turned_act}
 use Rattle.model_laws.specs.Courses.{state_at, OfConnection}
-use Rattle.model_laws.specs.EndLaws.{stage_of, ConnectionsGoForward, ClosedOnesAreGone, GoneStaysGone}
+use Rattle.model_laws.specs.EndLaws.{ConnectionsGoForward, ClosedOnesAreGone, GoneStaysGone}
 use Rattle.model_histories.proofs.EditLemmas.{edit_here}
 use Rattle.model_histories.proofs.OwnLemmas.{IsOneEdit, IsGivenUp, gone_closed}
 use Rattle.model_histories.specs.Histories.{MayStand}
@@ -19,22 +20,15 @@ use Rattle.model_steps.specs.After.{noted, sent_noted, after, after_act}
 use Rattle.model_steps.specs.Lost.{after_closed}
 use Rattle.model_authority.proofs.NumberLemmas.{and_value, value_and}
 use Rattle.model_authority.specs.Lists.{numbered}
-use Rattle.model_authority.specs.Statuses.{is_gone}
+use Rattle.model_authority.proofs.PhaseLemmas.{same_phase}
+use Rattle.model_authority.specs.Statuses.{stage_of, is_gone}
 use Rattle.model_values.specs.declared.entry.Act.{Act}
 use Rattle.model_values.specs.declared.entry.Act.TheVariants.{Closed}
 use Rattle.model_values.specs.declared.entry.Entry.{Entry}
 use Rattle.model_values.specs.declared.state.AbstractPool.{AbstractPool}
 use Rattle.model_values.specs.declared.state.Connection.{Connection}
 use Rattle.model_values.specs.declared.state.Phase.{Phase}
-use Rattle.model_values.specs.declared.state.Phase.TheVariants.{Wanted, Dialing, Open, Draining, Closing, Gone}
-
-is_then_gone : (p : Phase) → is_gone p ≡ true → p ≡ Gone
-is_then_gone Wanted h = absurd cc
-is_then_gone Dialing h = absurd cc
-is_then_gone Open h = absurd cc
-is_then_gone Draining h = absurd cc
-is_then_gone Closing h = absurd cc
-is_then_gone Gone h = refl
+use Rattle.model_values.specs.declared.state.Phase.TheVariants.{Gone}
 
 abbrev IsGoneAt : Option Connection → Type 0
 IsGoneAt o = IsSomeAnd o (λ y. y.phase ≡ Gone)
@@ -42,7 +36,7 @@ IsGoneAt o = IsSomeAnd o (λ y. y.phase ≡ Gone)
 gone_turned : (closed : Bool) (o p : Option Connection) → TurnsAt false closed o p → IsGoneAt o → IsGoneAt p
 gone_turned closed None p k h = absurd h
 gone_turned closed (Some x) None k h = absurd k
-gone_turned closed (Some x) (Some y) k h = is_then_gone y.phase (k.final (ap (λ (p : Phase). is_gone p) h))
+gone_turned closed (Some x) (Some y) k h = same_phase y.phase Gone (eqb-true (stage_of y.phase) 5 (k.final (ap (λ (p : Phase). is_gone p) h)))
 
 pub gone_after : (c : ConnNo) (s : AbstractPool) (e : Entry) → MayStand s e → OfConnection s c (λ y. y.phase ≡ Gone) → OfConnection (after s e) c (λ y. y.phase ≡ Gone)
 unfolding after noted
@@ -84,7 +78,7 @@ gone_behind s who c sent cause heard fit =
     let act : Act = Closed c sent cause heard in
     let v = value_and (numbered c.0 s.connections) (λ x. MayClose x cause) fit in
     let first : numbered c.0 t.connections ≡ Some (with_sent sent v.0) = edit_here c.0 (with_sent sent) s.connections v.0 v.1 in
-    gone_edited c.0 (with_sent sent v.0) t.connections (after_closed t c cause act).connections (gone_closed t c cause act (with_sent sent v.0) first)
+    gone_edited c.0 (with_sent sent v.0) t.connections (after_closed t c cause heard).connections (gone_closed t c cause heard (with_sent sent v.0) first)
 
 pub closed_ones_are_gone : ClosedOnesAreGone
 unfolding after

@@ -23,10 +23,10 @@ use Rattle.model_histories.proofs.RunLemmas.{config-after}
 use Rattle.model_histories.specs.Histories.{opening, MayStand}
 use Rattle.model_histories.specs.Legal.{IsWorkersEntry, MayReport, MayTake, MayTakeAt, MayReportAt, IsReply, IsLegal}
 use Rattle.model_settling.specs.Settling.{can_use, IsAssign, IsDue}
-use Rattle.model_steps.specs.After.{noted, after_submit, released_lease, released_by, released, after_cancel, after_reprioritise, after_preconnect, after_resolved, after_network, after_shut, after_dial, after_orders, connection_after_answer, after_leases, after_alt_seen, after_report, after_expire, after_lapse, after_assign, wanted_connection, after_want_of, after_want, after_evict, sent_noted, after_act, after}
+use Rattle.model_steps.specs.After.{noted, after_submit, released_lease, released_by, released, after_cancel, after_reprioritise, after_preconnect, after_resolved, after_network, after_shut, after_dial, after_orders, after_alt_seen, after_report, after_expire, after_lapse, after_assign, wanted_connection, after_want_of, after_want, after_evict, sent_noted, after_act, after}
 use Rattle.model_steps.specs.Opened.{after_useless, after_open_of, after_open}
-use Rattle.model_steps.specs.Answered.{after_answered}
-use Rattle.model_steps.specs.Lost.{is_dial_failed, after_failed_dial, after_closed}
+use Rattle.model_steps.specs.Answered.{after_answered, answered_connection, lease_at}
+use Rattle.model_steps.specs.Lost.{is_dial_failed, after_failed_dial, after_closed, after_lost}
 use Rattle.model_authority.proofs.NumberLemmas.{value_and, passing}
 use Rattle.model_authority.specs.Lists.{numbered, edit}
 use Rattle.model_authority.specs.Statuses.{is_wanted}
@@ -175,39 +175,39 @@ stay_orders config s who c sent orders fit =
     (stay_edit config c.0 (with_taken orders) t.connections
     (λ x is_item. orderly_with_taken config orders x (v.2.1.1 ∙ ap (λ (y : Connection). y.orders) (same_item (numbered c.0 t.connections) (with_sent sent v.0) x first is_item))))
 
-stay_report : (config : Config) (s : AbstractPool) (c : ConnNo) (act : Act) (r : Report) → ((x : Connection) → numbered c.0 s.connections ≡ Some x → IsReportedIn x.phase r) →
-    StayOrderly config s.connections (after_report s c act r).connections
+stay_report : (config : Config) (s : AbstractPool) (c : ConnNo) (r : Report) → ((x : Connection) → numbered c.0 s.connections ≡ Some x → IsReportedIn x.phase r) →
+    StayOrderly config s.connections (after_report s c r).connections
 unfolding after_open after_answered
-stay_report config s c act (report.Opened id) fit = by (numbered c.0 s.connections)
+stay_report config s c (report.Opened id) fit = by (numbered c.0 s.connections)
   where
     by : (o : Option Connection) → StayOrderly config s.connections (after_open_of s c id o).connections
     by None = stay_same config s.connections
     by (Some y) =
         stay_edit config c.0 (after_opened (is_some s.shutdown) s.latest id) s.connections
         (λ x is_item. orderly_after_opened config (is_some s.shutdown) s.latest id x (fit x is_item))
-stay_report config s c act (report.Limit n) fit = stay_by config c.0 (with_limit n) s.connections (λ x. orderly_same config x (with_limit n x) refl refl refl refl refl refl)
-stay_report config s c act (report.Answered r response keep alt proof) fit =
-    stay_by config c.0 (connection_after_answer s c r keep act) s.connections (orderly_answered config s c r keep act)
-stay_report config s c act (report.Refused r) fit = stay_by config c.0 (without_stream s.latest r) s.connections (orderly_without_stream config s.latest r)
-stay_report config s c act (report.Reset r code) fit = stay_by config c.0 (without_stream s.latest r) s.connections (orderly_without_stream config s.latest r)
-stay_report config s c act (report.TooLarge r) fit = stay_by config c.0 (after_large_answer s.latest r) s.connections (orderly_after_too_large config s.latest r)
-stay_report config s c act (report.StreamClosed r) fit = stay_by config c.0 (without_stream s.latest r) s.connections (orderly_without_stream config s.latest r)
-stay_report config s c act (report.Goaway last) fit =
+stay_report config s c (report.Limit n) fit = stay_by config c.0 (with_limit n) s.connections (λ x. orderly_same config x (with_limit n x) refl refl refl refl refl refl)
+stay_report config s c (report.Answered r response keep alt proof) fit =
+    stay_by config c.0 (answered_connection s.latest r response keep (lease_at s c r)) s.connections (orderly_answered config s c r response keep)
+stay_report config s c (report.Refused r) fit = stay_by config c.0 (without_stream s.latest r) s.connections (orderly_without_stream config s.latest r)
+stay_report config s c (report.Reset r code) fit = stay_by config c.0 (without_stream s.latest r) s.connections (orderly_without_stream config s.latest r)
+stay_report config s c (report.TooLarge r) fit = stay_by config c.0 (after_large_answer s.latest r) s.connections (orderly_after_too_large config s.latest r)
+stay_report config s c (report.StreamClosed r) fit = stay_by config c.0 (without_stream s.latest r) s.connections (orderly_without_stream config s.latest r)
+stay_report config s c (report.Goaway last) fit =
     stay_by config c.0 (going_away s.latest c s.exchanges last) s.connections (orderly_after_goaway config s.latest c s.exchanges last)
-stay_report config s c act (report.AltSeen origin alt) fit = by (numbered c.0 s.connections)
+stay_report config s c (report.AltSeen origin alt) fit = by (numbered c.0 s.connections)
   where
     by : (o : Option Connection) → StayOrderly config s.connections (after_alt_seen s origin alt o).connections
     by None = stay_same config s.connections
     by (Some x) = stay_same config s.connections
 
-stay_reported : (config : Config) (s : AbstractPool) (who : CallerNo) (c : ConnNo) (sent : ℕ) (act : Act) (r : Report) → MayReportAt s who c sent r →
-    StayOrderly config s.connections (after_report (sent_noted s c sent) c act r).connections
-stay_reported config s who c sent act r fit =
+stay_reported : (config : Config) (s : AbstractPool) (who : CallerNo) (c : ConnNo) (sent : ℕ) (r : Report) → MayReportAt s who c sent r →
+    StayOrderly config s.connections (after_report (sent_noted s c sent) c r).connections
+stay_reported config s who c sent r fit =
     let t : AbstractPool = sent_noted s c sent in
     let v = value_and (numbered c.0 s.connections) (λ x. IsWorkersEntry x who sent × MayReport x r) fit in
     let first : numbered c.0 t.connections ≡ Some (with_sent sent v.0) = edit_here c.0 (with_sent sent) s.connections v.0 v.1 in
-    stay_trans config s.connections t.connections (after_report t c act r).connections (stay_sent config s c sent)
-    (stay_report config t c act r
+    stay_trans config s.connections t.connections (after_report t c r).connections (stay_sent config s c sent)
+    (stay_report config t c r
     (λ x is_item. subst (λ (y : Connection). IsReportedIn y.phase r) (same_item (numbered c.0 t.connections) (with_sent sent v.0) x first is_item) (reported_in v.0 r v.2.1)))
 
 -- ---- the end of a connection
@@ -217,19 +217,19 @@ stay_useless : (config : Config) (xs : List Connection) (s : AbstractPool) (g : 
 stay_useless config xs s g wanted_for how via.Direct k = k
 stay_useless config xs s g wanted_for how (via.Alternative p) k = k
 
-stay_closed : (config : Config) (s : AbstractPool) (c : ConnNo) (end : EndCause) (act : Act) → StayOrderly config s.connections (after_closed s c end act).connections
+stay_closed : (config : Config) (s : AbstractPool) (c : ConnNo) (end : EndCause) (heard : List StreamNo) → StayOrderly config s.connections (after_closed s c end heard).connections
 unfolding after_closed
-stay_closed config s c end act =
-    let left : AbstractPool = after_leases s c act gone in
+stay_closed config s c end heard =
+    let left : AbstractPool = after_lost s c end heard in
     cond_both (is_dial_failed end) (after_failed_dial left c (numbered c.0 s.connections)) left (λ (t : AbstractPool). StayOrderly config s.connections t.connections)
     (λ f. by (numbered c.0 s.connections)) (λ f. ended)
   where
-    ended : StayOrderly config s.connections (after_leases s c act gone).connections
+    ended : StayOrderly config s.connections (after_lost s c end heard).connections
     ended = stay_by config c.0 gone s.connections (orderly_gone config)
 
-    by : (o : Option Connection) → StayOrderly config s.connections (after_failed_dial (after_leases s c act gone) c o).connections
+    by : (o : Option Connection) → StayOrderly config s.connections (after_failed_dial (after_lost s c end heard) c o).connections
     by None = ended
-    by (Some x) = stay_useless config s.connections (after_leases s c act gone) x.group x.wanted_for (outcome.DialFault c) x.group.target.via ended
+    by (Some x) = stay_useless config s.connections (after_lost s c end heard) x.group x.wanted_for (outcome.DialFault c) x.group.target.via ended
 
 -- ---- what the pool does by itself
 
@@ -288,11 +288,11 @@ stay_reply s who Tick fit = stay_same s.config s.connections
 stay_reply s who (Shutdown reply) fit = stay_shut s.config s reply
 stay_reply s who (Dial c target) fit = stay_dial s.config s who c fit.lowest.passes
 stay_reply s who (Orders c sent orders) fit = stay_orders s.config s who c sent orders fit
-stay_reply s who (Reported c sent report) fit = stay_reported s.config s who c sent (Reported c sent report) report fit
+stay_reply s who (Reported c sent report) fit = stay_reported s.config s who c sent report fit
 stay_reply s who (Closed c sent cause heard) fit =
     let t : AbstractPool = sent_noted s c sent in
-    let left : AbstractPool = after_closed t c cause (Closed c sent cause heard) in
-    stay_trans s.config s.connections t.connections left.connections (stay_sent s.config s c sent) (stay_closed s.config t c cause (Closed c sent cause heard))
+    let left : AbstractPool = after_closed t c cause heard in
+    stay_trans s.config s.connections t.connections left.connections (stay_sent s.config s c sent) (stay_closed s.config t c cause heard)
 stay_reply s who (Expire e) fit = absurd fit
 stay_reply s who (Lapse e) fit = absurd fit
 stay_reply s who (Assign e c r way) fit = absurd fit

@@ -14,26 +14,24 @@ use Rattle.net_base.specs.declared.numbers.Moment.{Moment}
 use Rattle.net_base.specs.declared.numbers.StreamNo.{StreamNo}
 use Rattle.partition_keys.specs.declared.group.GroupKey.{GroupKey}
 use Rattle.model_changes.specs.Connections.{started_by, streams_started, is_start, is_start_of, is_reset_of, closing, idle_from, has_run_out, idle_if_run_out, other_streams, without_stream, without_start, without_exchange, new_connection, dialing_by, suits, opened_with, refused_with, after_opened, stream_after, with_start, with_taken, kept_open, without_reset, after_answer, excluding, after_large_answer, streams_left, draining, draining_or_closing, going_away, gone, after_shutdown}
-use Rattle.model_laws.specs.MoveLaws.{may_move}
 use Rattle.model_laws.proofs.AssignedLemmas.{place_parts}
 use Rattle.model_laws.proofs.StayLemmas.{stream_rises}
 use Rattle.model_laws.specs.LimitLaws.{HasPlace}
 use Rattle.model_laws.specs.Sound.{HasNoStreams, IsOrderly}
-use Rattle.model_histories.proofs.KeepLemmas.{wanted_only}
-use Rattle.model_steps.specs.After.{excluding_moved, connection_after_answer}
-use Rattle.model_steps.specs.Answered.{lease_at}
+use Rattle.model_authority.proofs.PhaseLemmas.{follows, excludes}
+use Rattle.net_base.specs.declared.response.Response.{Response}
+use Rattle.model_steps.specs.Answered.{lease_at, is_misdirected, excluding_misdirected, answered_connection}
 use Rattle.model_authority.specs.Lists.{is_nil}
 use Rattle.model_authority.specs.Statuses.{is_wanted, is_dialing, is_open, is_draining, is_closing, is_gone, is_opening, is_h2, shows, speaks_h2}
 use Rattle.model_authority.specs.Ways.{has_capacity}
 use Rattle.model_values.specs.declared.config.Config.{Config}
-use Rattle.model_values.specs.declared.entry.Act.{Act}
 use Rattle.model_values.specs.declared.order.OrderMark.{OrderMark}
 use Rattle.model_values.specs.declared.order.OrderMark.TheVariants as mark
 use Rattle.model_values.specs.declared.state.AbstractPool.{AbstractPool}
 use Rattle.model_values.specs.declared.state.Connection.{Connection}
 use Rattle.model_values.specs.declared.state.Exchange.{Exchange}
 use Rattle.model_values.specs.declared.state.Phase.{Phase}
-use Rattle.model_values.specs.declared.state.Phase.TheVariants.{Wanted, Dialing, Open, Draining, Closing, Gone}
+use Rattle.model_values.specs.declared.state.Phase.TheVariants.{Draining, Closing}
 
 -- ---- lists of streams
 
@@ -159,17 +157,16 @@ orderly_after_answer config now r keep c h =
     let fewer : IsOrderly config less = orderly_fewer config c less refl refl refl refl (ordered_filter (λ m. not (is_reset_of r m)) c.orders) (omega arith) h in
     orderly_kept_open config keep (without_stream now r less) (orderly_without_stream config now r less fewer)
 
-orderly_excluding : (config : Config) (act : Act) (lease : Option Exchange) (c : Connection) → IsOrderly config c → IsOrderly config (excluding_moved act lease c)
-unfolding excluding_moved
-orderly_excluding config act None c h = h
-orderly_excluding config act (Some e) c h =
+orderly_excluding : (config : Config) (response : Response) (lease : Option Exchange) (c : Connection) → IsOrderly config c → IsOrderly config (excluding_misdirected response lease c)
+orderly_excluding config response None c h = h
+orderly_excluding config response (Some e) c h =
     let without : Connection = excluding e.ask.request.origin c in
-    cond_both (may_move e act) without c (IsOrderly config) (λ t. orderly_same config c without refl refl refl refl refl refl h) (λ f. h)
+    cond_both (is_misdirected response e) without c (IsOrderly config) (λ t. orderly_same config c without refl refl refl refl refl refl h) (λ f. h)
 
-pub orderly_answered : (config : Config) (s : AbstractPool) (conn : ConnNo) (r : StreamNo) (keep : Bool) (act : Act) (c : Connection) → IsOrderly config c →
-    IsOrderly config (connection_after_answer s conn r keep act c)
-orderly_answered config s conn r keep act c h =
-    orderly_after_answer config s.latest r keep (excluding_moved act (lease_at s conn r) c) (orderly_excluding config act (lease_at s conn r) c h)
+pub orderly_answered : (config : Config) (s : AbstractPool) (conn : ConnNo) (r : StreamNo) (response : Response) (keep : Bool) (c : Connection) → IsOrderly config c →
+    IsOrderly config (answered_connection s.latest r response keep (lease_at s conn r) c)
+orderly_answered config s conn r response keep c h =
+    orderly_after_answer config s.latest r keep (excluding_misdirected response (lease_at s conn r) c) (orderly_excluding config response (lease_at s conn r) c h)
 
 pub orderly_after_too_large : (config : Config) (now : Moment) (r : StreamNo) (c : Connection) → IsOrderly config c → IsOrderly config (after_large_answer now r c)
 unfolding after_large_answer
@@ -221,20 +218,12 @@ orderly_dialing config who c wanted h = record {
   started = h.started;
   ordered = h.ordered;
   opening = λ o.
-      let none = h.opening (wanted_only c.phase wanted).2 in
+      let none = h.opening (follows is_wanted is_opening refl c.phase wanted) in
       record { started = none.started; ordered = none.ordered; live = none.live };
   closing = λ t. absurd cc;
   h2 = h.h2;
   h1 = h.h1;
 }
-
-dialing_opening : (p : Phase) → is_dialing p ≡ true → is_opening p ≡ true
-dialing_opening Wanted h = absurd cc
-dialing_opening Dialing h = refl
-dialing_opening Open h = absurd cc
-dialing_opening Draining h = absurd cc
-dialing_opening Closing h = absurd cc
-dialing_opening Gone h = absurd cc
 
 -- one without streams may have any identity, and any next stream
 orderly_opened_with : (config : Config) (now : Moment) (id : Identity) (c : Connection) → HasNoStreams c → IsOrderly config (opened_with now id c)
@@ -265,21 +254,11 @@ pub orderly_after_opened : (config : Config) (is_shut : Bool) (now : Moment) (id
     IsOrderly config (after_opened is_shut now id c)
 unfolding after_opened
 orderly_after_opened config is_shut now id c dialing h =
-    let none : HasNoStreams c = h.opening (dialing_opening c.phase dialing) in
+    let none : HasNoStreams c = h.opening (follows is_dialing is_opening refl c.phase dialing) in
     cond_both (not is_shut && suits c.group id) (opened_with now id c) (refused_with id c) (IsOrderly config)
     (λ t. orderly_opened_with config now id c none) (λ f. orderly_refused_with config id c none h)
 
 -- ---- starts
-
--- an open one stays open, or drains
-up_with_start : (drains : Bool) (p : Phase) → is_open p ≡ true → (is_opening (if drains then Draining else p) ≡ false) × (is_closing (if drains then Draining else p) ≡ false)
-up_with_start true p h = (refl, refl)
-up_with_start false Wanted h = absurd cc
-up_with_start false Dialing h = absurd cc
-up_with_start false Open h = (refl, refl)
-up_with_start false Draining h = absurd cc
-up_with_start false Closing h = absurd cc
-up_with_start false Gone h = absurd cc
 
 pub orderly_with_start : (config : Config) (last : ℕ) (e : ExchangeNo) (r : StreamNo) (c : Connection) → is_open c.phase ≡ true → IsTrue (has_capacity config c) → r.0 ≡ c.next_stream →
     IsOrderly config c → IsOrderly config (with_start last e r c)
@@ -287,19 +266,21 @@ unfolding with_start
 orderly_with_start config last e r c opened capacity given h =
     let next : ℕ = stream_after r c in
     let rises : r.0 < next = stream_rises r c in
-    let up = up_with_start (nat_lt last next) c.phase opened in
     let place : HasPlace config c = place_parts config c capacity in
     let ordered : All (Below next) (streams_started c.orders ++ r ∷ []) =
     All-append (Below next) (streams_started c.orders) (r ∷ []) (risen (streams_started c.orders) h.ordered) (All-cons (Below next) r [] rises (All-nil (Below next))) in
     record {
       started = risen c.started h.started;
       ordered = subst (All (Below next)) (sym (flat_map-append started_by c.orders (mark.Start e r ∷ []))) ordered;
-      opening = λ o. absurd (both_ways _ up.0 o);
-      closing = λ t. absurd (both_ways _ up.1 t);
+      opening = λ o. absurd (both_ways _ (apart is_opening refl (excludes is_open is_opening refl c.phase opened)) o);
+      closing = λ t. absurd (both_ways _ (apart is_closing refl (excludes is_open is_closing refl c.phase opened)) t);
       h2 = λ t. let less : length c.live < config.streams = (place.h2 t).0 in omega (arith, length_push c.live r);
       h1 = λ f. let none : length c.live ≡ 0 = ap (λ (rs : List StreamNo). length rs) (place.h1 f) in omega (arith, length_push c.live r);
     }
   where
+    apart : (f : Phase → Bool) → f Draining ≡ false → f c.phase ≡ false → f (with_start last e r c).phase ≡ false
+    apart f drained same = cond_both (nat_lt last (stream_after r c)) Draining c.phase (λ (p : Phase). f p ≡ false) (λ t. drained) (λ t. same)
+
     risen : (rs : List StreamNo) → All (Below c.next_stream) rs → All (Below (stream_after r c)) rs
     risen rs all = All-weaker (Below c.next_stream) (Below (stream_after r c)) (λ x below. let rises : r.0 < stream_after r c = stream_rises r c in omega arith) rs all
 

@@ -9,54 +9,19 @@ use Rattle.net_base.specs.declared.numbers.ExchangeNo.{ExchangeNo}
 use Rattle.net_base.specs.declared.numbers.Moment.{Moment}
 use Rattle.net_base.specs.declared.numbers.StreamNo.{StreamNo}
 use Rattle.model_changes.specs.Connections.{closing, idle_from, has_run_out, idle_if_run_out, other_streams, is_start, is_start_of, without_stream, without_start, without_exchange, suits, opened_with, after_opened, with_start, kept_open, without_reset, after_answer, excluding, after_large_answer, streams_left, draining, going_away, gone, after_shutdown}
-use Rattle.model_laws.specs.MoveLaws.{may_move}
 use Rattle.model_histories.proofs.EditLemmas.{edit_at, map_at}
-use Rattle.model_steps.specs.After.{excluding_moved, connection_after_answer}
-use Rattle.model_steps.specs.Answered.{lease_at}
+use Rattle.net_base.specs.declared.response.Response.{Response}
+use Rattle.model_steps.specs.Answered.{lease_at, is_misdirected, excluding_misdirected, answered_connection}
 use Rattle.model_authority.proofs.NumberLemmas.{numbered_at}
+use Rattle.model_authority.proofs.PhaseLemmas.{excludes}
 use Rattle.model_authority.specs.Lists.{numbered, edit, is_nil}
-use Rattle.model_authority.specs.Statuses.{is_wanted, is_dialing, is_open, is_draining, is_closing, is_gone, is_busy, speaks_h2}
-use Rattle.model_values.specs.declared.entry.Act.{Act}
+use Rattle.model_authority.specs.Statuses.{is_wanted, is_open, is_draining, is_closing, is_gone, speaks_h2}
 use Rattle.model_values.specs.declared.order.OrderMark.TheVariants as mark
 use Rattle.model_values.specs.declared.state.AbstractPool.{AbstractPool}
 use Rattle.model_values.specs.declared.state.Connection.{Connection}
 use Rattle.model_values.specs.declared.state.Exchange.{Exchange}
 use Rattle.model_values.specs.declared.state.Phase.{Phase}
-use Rattle.model_values.specs.declared.state.Phase.TheVariants.{Wanted, Dialing, Open, Draining, Closing, Gone}
-
--- ---- phases
-
-pub wanted_there : (p : Phase) → is_wanted p ≡ true → is_gone p ≡ false
-wanted_there Wanted h = refl
-wanted_there Dialing h = refl
-wanted_there Open h = refl
-wanted_there Draining h = refl
-wanted_there Closing h = refl
-wanted_there Gone h = absurd cc
-
-pub dialing_there : (p : Phase) → is_dialing p ≡ true → is_gone p ≡ false
-dialing_there Wanted h = refl
-dialing_there Dialing h = refl
-dialing_there Open h = refl
-dialing_there Draining h = refl
-dialing_there Closing h = refl
-dialing_there Gone h = absurd cc
-
-pub open_there : (p : Phase) → is_open p ≡ true → is_gone p ≡ false
-open_there Wanted h = refl
-open_there Dialing h = refl
-open_there Open h = refl
-open_there Draining h = refl
-open_there Closing h = refl
-open_there Gone h = absurd cc
-
-pub busy_there : (p : Phase) → is_busy p ≡ true → is_gone p ≡ false
-busy_there Wanted h = refl
-busy_there Dialing h = refl
-busy_there Open h = refl
-busy_there Draining h = refl
-busy_there Closing h = refl
-busy_there Gone h = absurd cc
+use Rattle.model_values.specs.declared.state.Phase.TheVariants.{Draining, Closing}
 
 -- ---- one connection
 
@@ -149,7 +114,7 @@ out_after_too_large now r c =
 out_draining : (c : Connection) → StaysOut c (draining c)
 out_draining c =
     let drained : Connection = record c { phase = Draining } in
-    cond_both (is_open c.phase) drained c (StaysOut c) (λ t. out_there c drained refl (open_there c.phase t)) (λ f. out_refl c)
+    cond_both (is_open c.phase) drained c (StaysOut c) (λ t. out_there c drained refl (excludes is_open is_gone refl c.phase t)) (λ f. out_refl c)
 
 pub out_after_goaway : (now : Moment) (conn : ConnNo) (es : List Exchange) (last : StreamNo) (c : Connection) → StaysOut c (going_away now conn es last c)
 unfolding going_away
@@ -170,17 +135,16 @@ out_after_shutdown c =
     cond_both (is_wanted c.phase) (gone c) up (StaysOut c) (λ w. out_gone c)
     (λ f. cond_both (is_open c.phase || is_draining c.phase) (closing c) c (StaysOut c) (λ t. out_closing c) (λ g. out_refl c))
 
-out_excluding : (act : Act) (lease : Option Exchange) (c : Connection) → StaysOut c (excluding_moved act lease c)
-unfolding excluding_moved
-out_excluding act None c = out_refl c
-out_excluding act (Some e) c =
+out_excluding : (response : Response) (lease : Option Exchange) (c : Connection) → StaysOut c (excluding_misdirected response lease c)
+out_excluding response None c = out_refl c
+out_excluding response (Some e) c =
     let without : Connection = excluding e.ask.request.origin c in
-    cond_both (may_move e act) without c (StaysOut c) (λ t. out_phase c without refl refl) (λ f. out_refl c)
+    cond_both (is_misdirected response e) without c (StaysOut c) (λ t. out_phase c without refl refl) (λ f. out_refl c)
 
-pub out_answered : (s : AbstractPool) (conn : ConnNo) (r : StreamNo) (keep : Bool) (act : Act) (c : Connection) → StaysOut c (connection_after_answer s conn r keep act c)
-out_answered s conn r keep act c =
-    let moved : Connection = excluding_moved act (lease_at s conn r) c in
-    out_trans c moved (after_answer s.latest r keep moved) (out_excluding act (lease_at s conn r) c) (out_after_answer s.latest r keep moved)
+pub out_answered : (s : AbstractPool) (conn : ConnNo) (r : StreamNo) (response : Response) (keep : Bool) (c : Connection) → StaysOut c (answered_connection s.latest r response keep (lease_at s conn r) c)
+out_answered s conn r response keep c =
+    let moved : Connection = excluding_misdirected response (lease_at s conn r) c in
+    out_trans c moved (after_answer s.latest r keep moved) (out_excluding response (lease_at s conn r) c) (out_after_answer s.latest r keep moved)
 
 -- ---- lists of connections
 

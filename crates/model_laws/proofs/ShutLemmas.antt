@@ -1,6 +1,7 @@
 -- A shutdown is final: each exchange has ended, no connection is wanted, open or draining, and nothing begins.
 use Rattle.std.proofs.Common.{◌≡◌, ◌<◌, ◌+◌, ◌⊎◌, ℕ, List, Option, Some, None, Bool, true, inl, inr, refl, sym, ap, subst, ◌∙◌, arith, is_some, IsSome, IsTrue}
-use Rattle.std.proofs.lemmas.Bool.{cond_both, both_ways}
+use Rattle.std.specs.Prelude.{◌||◌}
+use Rattle.std.proofs.lemmas.Bool.{cond_both, both_ways, false_from_ne_true, or_from}
 use Rattle.net_base.specs.declared.end_cause.EndCause.{EndCause}
 use Rattle.net_base.specs.declared.identity.Identity.{Identity}
 use Rattle.net_base.specs.declared.numbers.CallerNo.{CallerNo}
@@ -11,7 +12,7 @@ use Rattle.net_base.specs.declared.target.Target.{Target}
 use Rattle.net_base.specs.declared.target.Via.{Via}
 use Rattle.net_base.specs.declared.target.Via.TheVariants as via
 use Rattle.partition_keys.specs.declared.group.GroupKey.{GroupKey}
-use Rattle.model_changes.specs.Connections.{gone, after_shutdown}
+use Rattle.model_changes.specs.Connections.{after_shutdown}
 use Rattle.model_laws.proofs.CourseLemmas.{IsKept, state_later, state_each, state_after}
 use Rattle.model_laws.proofs.FitLemmas.{IsFit, closes, fit_stand}
 use Rattle.model_laws.proofs.ReleaseLemmas.{HasEnded, releases_act}
@@ -23,13 +24,15 @@ use Rattle.model_laws.specs.Sound.{IsShutDown}
 use Rattle.model_histories.proofs.EditLemmas.{map_at}
 use Rattle.model_histories.specs.Histories.{opening, MayStand}
 use Rattle.model_histories.specs.Replies.{IsSubmitReply, IsPreconnectReply}
-use Rattle.model_steps.specs.After.{noted, after_submit, after_cancel, after_reprioritise, after_preconnect, after_resolved, after_network, after_shut, after_dial, after_orders, after_leases, after_alt_seen, after_report, after_expire, after_lapse, after_assign, after_want_of, after_want, after_evict, sent_noted, after_act, after}
+use Rattle.net_base.specs.declared.numbers.StreamNo.{StreamNo}
+use Rattle.model_steps.specs.After.{noted, after_submit, after_cancel, after_reprioritise, after_preconnect, after_resolved, after_network, after_shut, after_dial, after_orders, after_alt_seen, after_report, after_expire, after_lapse, after_assign, after_want_of, after_want, after_evict, sent_noted, after_act, after}
 use Rattle.model_steps.specs.Opened.{after_useless, is_useless, after_identity_of, after_open_of, after_open}
 use Rattle.model_steps.specs.Answered.{after_answered}
-use Rattle.model_steps.specs.Lost.{is_dial_failed, after_failed_dial, after_closed}
+use Rattle.model_steps.specs.Lost.{is_dial_failed, after_failed_dial, after_closed, after_lost}
 use Rattle.model_steps.specs.Exchanges.{ended_by, ended_unless}
 use Rattle.model_authority.proofs.NumberLemmas.{value_and}
 use Rattle.model_authority.specs.Lists.{numbered}
+use Rattle.model_authority.proofs.PhaseLemmas.{excludes, or_else}
 use Rattle.model_authority.specs.Statuses.{has_ended, is_wanted, is_open, is_draining}
 use Rattle.model_authority.specs.Ways.{group_for}
 use Rattle.model_values.specs.declared.config.Config.{Config}
@@ -50,7 +53,6 @@ use Rattle.model_values.specs.declared.state.AbstractPool.{AbstractPool}
 use Rattle.model_values.specs.declared.state.Connection.{Connection}
 use Rattle.model_values.specs.declared.state.Exchange.{Exchange}
 use Rattle.model_values.specs.declared.state.Phase.{Phase}
-use Rattle.model_values.specs.declared.state.Phase.TheVariants.{Wanted, Dialing, Open, Draining, Closing, Gone}
 
 -- ---- the mark of the shutdown, which only the shutdown sets
 
@@ -74,31 +76,31 @@ still_open s conn id = by (numbered conn.0 s.connections)
     by None = refl
     by (Some c) = still_identity s conn c.group c.wanted_for id
 
-still_report : (s : AbstractPool) (conn : ConnNo) (act : Act) (r : Report) → IsStill s (after_report s conn act r)
+still_report : (s : AbstractPool) (conn : ConnNo) (r : Report) → IsStill s (after_report s conn r)
 unfolding after_answered
-still_report s conn act (report.Opened id) = still_open s conn id
-still_report s conn act (report.Limit n) = refl
-still_report s conn act (report.Answered r response keep alt proof) = refl
-still_report s conn act (report.Refused r) = refl
-still_report s conn act (report.Reset r code) = refl
-still_report s conn act (report.TooLarge r) = refl
-still_report s conn act (report.StreamClosed r) = refl
-still_report s conn act (report.Goaway last) = refl
-still_report s conn act (report.AltSeen origin alt) = by (numbered conn.0 s.connections)
+still_report s conn (report.Opened id) = still_open s conn id
+still_report s conn (report.Limit n) = refl
+still_report s conn (report.Answered r response keep alt proof) = refl
+still_report s conn (report.Refused r) = refl
+still_report s conn (report.Reset r code) = refl
+still_report s conn (report.TooLarge r) = refl
+still_report s conn (report.StreamClosed r) = refl
+still_report s conn (report.Goaway last) = refl
+still_report s conn (report.AltSeen origin alt) = by (numbered conn.0 s.connections)
   where
     by : (o : Option Connection) → IsStill s (after_alt_seen s origin alt o)
     by None = refl
     by (Some c) = refl
 
-still_closed : (s : AbstractPool) (conn : ConnNo) (c : EndCause) (act : Act) → IsStill s (after_closed s conn c act)
+still_closed : (s : AbstractPool) (conn : ConnNo) (c : EndCause) (heard : List StreamNo) → IsStill s (after_closed s conn c heard)
 unfolding after_closed
-still_closed s conn c act =
-    let left : AbstractPool = after_leases s conn act gone in
+still_closed s conn c heard =
+    let left : AbstractPool = after_lost s conn c heard in
     cond_both (is_dial_failed c) (after_failed_dial left conn (numbered conn.0 s.connections)) left (IsStill s) (λ f. by (numbered conn.0 s.connections)) (λ f. refl)
   where
-    by : (o : Option Connection) → IsStill s (after_failed_dial (after_leases s conn act gone) conn o)
+    by : (o : Option Connection) → IsStill s (after_failed_dial (after_lost s conn c heard) conn o)
     by None = refl
-    by (Some x) = still_useless (after_leases s conn act gone) x.group x.wanted_for (outcome.DialFault conn) x.group.target.via
+    by (Some x) = still_useless (after_lost s conn c heard) x.group x.wanted_for (outcome.DialFault conn) x.group.target.via
 
 still_want : (s : AbstractPool) (e : ExchangeNo) (t : Target) → IsStill s (after_want s e t)
 unfolding after_want
@@ -133,8 +135,8 @@ shut_act s who (Shutdown (shut_reply.Closed place)) = inl refl
 shut_act s who (Shutdown shut_reply.Noted) = inr refl
 shut_act s who (Dial c target) = inl refl
 shut_act s who (Orders c sent orders) = inl refl
-shut_act s who (Reported c sent report) = inl (still_report (sent_noted s c sent) c (Reported c sent report) report)
-shut_act s who (Closed c sent cause heard) = inl (still_closed (sent_noted s c sent) c cause (Closed c sent cause heard))
+shut_act s who (Reported c sent report) = inl (still_report (sent_noted s c sent) c report)
+shut_act s who (Closed c sent cause heard) = inl (still_closed (sent_noted s c sent) c cause heard)
 shut_act s who (Expire e) = inl refl
 shut_act s who (Lapse e) = inl refl
 shut_act s who (Assign e c r by) = inl refl
@@ -162,20 +164,13 @@ IsDownAt None = Unit {0}
 IsDownAt (Some y) = is_down y.phase ≡ true
 
 down_parts : (p : Phase) → is_down p ≡ true → (¬ IsTrue (is_wanted p)) × (¬ IsTrue (is_open p)) × (¬ IsTrue (is_draining p))
-down_parts Wanted h = absurd cc
-down_parts Dialing h = (λ e. absurd cc, λ e. absurd cc, λ e. absurd cc)
-down_parts Open h = absurd cc
-down_parts Draining h = absurd cc
-down_parts Closing h = (λ e. absurd cc, λ e. absurd cc, λ e. absurd cc)
-down_parts Gone h = (λ e. absurd cc, λ e. absurd cc, λ e. absurd cc)
+down_parts p h =
+    (both_ways (is_wanted p) (excludes is_down is_wanted refl p h), both_ways (is_open p) (excludes is_down is_open refl p h), both_ways (is_draining p) (excludes is_down is_draining refl p h))
 
 down_from : (p : Phase) → (¬ IsTrue (is_wanted p)) × (¬ IsTrue (is_open p)) × (¬ IsTrue (is_draining p)) → is_down p ≡ true
-down_from Wanted h = absurd (h.0 refl)
-down_from Dialing h = refl
-down_from Open h = absurd (h.1 refl)
-down_from Draining h = absurd (h.2 refl)
-down_from Closing h = refl
-down_from Gone h = refl
+down_from p h =
+    or_else is_wanted (λ q. is_open q || is_draining q) is_down refl p (false_from_ne_true (is_wanted p) h.0)
+    (or_from (is_open p) (is_draining p) (false_from_ne_true (is_open p) h.1) (false_from_ne_true (is_draining p) h.2))
 
 -- by the number of each
 record AllOver (s : AbstractPool) : Type 0 where

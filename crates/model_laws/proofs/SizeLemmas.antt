@@ -1,5 +1,5 @@
 -- The exchanges and the connections of a pool stay as many as there may be, behind each entry that may stand.
-use Rattle.std.proofs.Common.{◌≡◌, ◌<◌, ◌≤◌, ◌≢◌, ◌∙◌, ℕ, List, true, false, Option, Some, None, inl, inr, refl, sym, subst, arith, is_some, length, replicate, slice_get}
+use Rattle.std.proofs.Common.{map, ◌≡◌, ◌<◌, ◌≤◌, ◌≢◌, ◌∙◌, ℕ, List, true, false, Option, Some, None, inl, inr, refl, sym, subst, arith, is_some, length, replicate, slice_get}
 use Rattle.std.specs.Prelude.{◌-◌, ◌==◌, ◌&&◌, not}
 use Rattle.std.proofs.lemmas.Bool.{cond_both, and_parts, ltb-true}
 use Rattle.std.proofs.lemmas.List.{length-map, length-append, length-replicate, length-set, length_push}
@@ -22,11 +22,14 @@ use Rattle.model_histories.specs.Replies.{IsSubmitReply, IsPreconnectReply}
 use Rattle.model_settling.specs.Counts.{openings_of}
 use Rattle.model_settling.specs.Room.{is_eligible, expects_h2, has_open_h2, has_numbers, is_total_full, has_room_in, has_room_but_total, has_room, room_left, planned}
 use Rattle.model_settling.specs.Settling.{IsDue, IsWant, can_open}
-use Rattle.model_steps.specs.After.{noted, after_submit, released_lease, released_by, released, after_cancel, after_reprioritise, after_preconnect, after_resolved, after_network, after_shut, after_dial, after_orders, connection_after_answer, after_leases, after_alt_seen, after_report, after_expire, after_lapse, after_assign, wanted_connection, after_want_of, after_want, after_evict, sent_noted, after_act, after}
+use Rattle.net_base.specs.declared.numbers.StreamNo.{StreamNo}
+use Rattle.model_steps.specs.After.{noted, after_submit, released_lease, released_by, released, after_cancel, after_reprioritise, after_preconnect, after_resolved, after_network, after_shut, after_dial, after_orders, after_alt_seen, after_report, after_expire, after_lapse, after_assign, wanted_connection, after_want_of, after_want, after_evict, sent_noted, after_act, after}
 use Rattle.model_steps.specs.Opened.{ended_for, after_useless, is_useless, after_identity_of, after_open_of, after_open}
-use Rattle.model_steps.specs.Answered.{after_answered}
-use Rattle.model_steps.specs.Lost.{is_dial_failed, after_failed_dial, after_closed}
-use Rattle.model_steps.specs.Exchanges.{new_exchange, with_status, ended_by, with_urgency, timed_out, ended_unless, ended_if_waiting, lease_after, handed_by}
+use Rattle.model_steps.specs.Answered.{answered, after_answered, answered_connection, lease_at}
+use Rattle.model_steps.specs.Lost.{lost, is_dial_failed, after_failed_dial, after_closed, after_lost}
+use Rattle.model_steps.specs.Goaway.{left_out}
+use Rattle.model_steps.specs.StreamEnds.{refused, ended_at}
+use Rattle.model_steps.specs.Exchanges.{new_exchange, with_status, ended_by, with_urgency, timed_out, ended_unless, ended_if_waiting, handed_by}
 use Rattle.model_authority.proofs.NumberLemmas.{passing}
 use Rattle.model_authority.specs.Lists.{numbered, with_item, edit}
 use Rattle.model_authority.specs.Ways.{group_of, group_for}
@@ -99,8 +102,9 @@ nothing_trans s t u first second = (second.0 ∙ first.0, second.1 ∙ first.1)
 nothing_sent : (s : AbstractPool) (c : ConnNo) (sent : ℕ) → AddsNothing s (sent_noted s c sent)
 nothing_sent s c sent = (refl, length_edit c.0 (with_sent sent) s.connections)
 
-nothing_leases : (s : AbstractPool) (conn : ConnNo) (act : Act) (f : Connection → Connection) → AddsNothing s (after_leases s conn act f)
-nothing_leases s conn act f = (length-map s.exchanges (lease_after act), length_edit conn.0 f s.connections)
+nothing_leases : (s : AbstractPool) (conn : ConnNo) (f : Exchange → Exchange) (g : Connection → Connection) →
+    AddsNothing s (record s { exchanges = map f s.exchanges; connections = edit conn.0 g s.connections })
+nothing_leases s conn f g = (length-map s.exchanges f, length_edit conn.0 g s.connections)
 
 nothing_useless : (s : AbstractPool) (g : GroupKey) (wanted_for : Option ExchangeNo) (how : Outcome) (v : Via) → AddsNothing s (after_useless s g wanted_for how v)
 nothing_useless s g wanted_for how via.Direct = (length_ended wanted_for how s.exchanges, refl)
@@ -119,34 +123,34 @@ nothing_open s conn id = by (numbered conn.0 s.connections)
     by None = nothing s
     by (Some c) = ((nothing_identity s conn c.group c.wanted_for id).0, length_edit conn.0 (after_opened (is_some s.shutdown) s.latest id) s.connections)
 
-nothing_report : (s : AbstractPool) (conn : ConnNo) (act : Act) (r : Report) → AddsNothing s (after_report s conn act r)
+nothing_report : (s : AbstractPool) (conn : ConnNo) (r : Report) → AddsNothing s (after_report s conn r)
 unfolding after_answered
-nothing_report s conn act (report.Opened id) = nothing_open s conn id
-nothing_report s conn act (report.Limit n) = (refl, length_edit conn.0 (with_limit n) s.connections)
-nothing_report s conn act (report.Answered r response keep alt proof) =
-    (length-map s.exchanges (lease_after act), length_edit conn.0 (connection_after_answer s conn r keep act) s.connections)
-nothing_report s conn act (report.Refused r) = nothing_leases s conn act (without_stream s.latest r)
-nothing_report s conn act (report.Reset r code) = nothing_leases s conn act (without_stream s.latest r)
-nothing_report s conn act (report.TooLarge r) = nothing_leases s conn act (after_large_answer s.latest r)
-nothing_report s conn act (report.StreamClosed r) = (refl, length_edit conn.0 (without_stream s.latest r) s.connections)
-nothing_report s conn act (report.Goaway last) = nothing_leases s conn act (going_away s.latest conn s.exchanges last)
-nothing_report s conn act (report.AltSeen origin alt) = by (numbered conn.0 s.connections)
+nothing_report s conn (report.Opened id) = nothing_open s conn id
+nothing_report s conn (report.Limit n) = (refl, length_edit conn.0 (with_limit n) s.connections)
+nothing_report s conn (report.Answered r response keep alt proof) =
+    (length-map s.exchanges (answered conn r response), length_edit conn.0 (answered_connection s.latest r response keep (lease_at s conn r)) s.connections)
+nothing_report s conn (report.Refused r) = nothing_leases s conn (refused conn r) (without_stream s.latest r)
+nothing_report s conn (report.Reset r code) = nothing_leases s conn (ended_at conn r (outcome.Reset code)) (without_stream s.latest r)
+nothing_report s conn (report.TooLarge r) = nothing_leases s conn (ended_at conn r outcome.TooLarge) (after_large_answer s.latest r)
+nothing_report s conn (report.StreamClosed r) = (refl, length_edit conn.0 (without_stream s.latest r) s.connections)
+nothing_report s conn (report.Goaway last) = nothing_leases s conn (left_out conn last) (going_away s.latest conn s.exchanges last)
+nothing_report s conn (report.AltSeen origin alt) = by (numbered conn.0 s.connections)
   where
     by : (o : Option Connection) → AddsNothing s (after_alt_seen s origin alt o)
     by None = nothing s
     by (Some c) = nothing s
 
-nothing_closed : (s : AbstractPool) (conn : ConnNo) (end : EndCause) (act : Act) → AddsNothing s (after_closed s conn end act)
+nothing_closed : (s : AbstractPool) (conn : ConnNo) (end : EndCause) (heard : List StreamNo) → AddsNothing s (after_closed s conn end heard)
 unfolding after_closed
-nothing_closed s conn end act =
-    cond_both (is_dial_failed end) (after_failed_dial (after_leases s conn act gone) conn (numbered conn.0 s.connections)) (after_leases s conn act gone) (AddsNothing s)
-    (λ f. by (numbered conn.0 s.connections)) (λ f. nothing_leases s conn act gone)
+nothing_closed s conn end heard =
+    cond_both (is_dial_failed end) (after_failed_dial (after_lost s conn end heard) conn (numbered conn.0 s.connections)) (after_lost s conn end heard) (AddsNothing s)
+    (λ f. by (numbered conn.0 s.connections)) (λ f. nothing_leases s conn (lost conn end heard) gone)
   where
-    by : (o : Option Connection) → AddsNothing s (after_failed_dial (after_leases s conn act gone) conn o)
-    by None = nothing_leases s conn act gone
+    by : (o : Option Connection) → AddsNothing s (after_failed_dial (after_lost s conn end heard) conn o)
+    by None = nothing_leases s conn (lost conn end heard) gone
     by (Some c) =
-        let left : AbstractPool = after_leases s conn act gone in
-        nothing_trans s left (after_useless left c.group c.wanted_for (outcome.DialFault conn) c.group.target.via) (nothing_leases s conn act gone)
+        let left : AbstractPool = after_lost s conn end heard in
+        nothing_trans s left (after_useless left c.group c.wanted_for (outcome.DialFault conn) c.group.target.via) (nothing_leases s conn (lost conn end heard) gone)
         (nothing_useless left c.group c.wanted_for (outcome.DialFault conn) c.group.target.via)
 
 nothing_orders : (s : AbstractPool) (c : ConnNo) (orders : List OrderMark) → AddsNothing s (after_orders s c orders)
@@ -264,12 +268,12 @@ enough_reply s who (Orders c sent orders) reply has =
     enough s (after_orders t c orders) (nothing_trans s t (after_orders t c orders) (nothing_sent s c sent) (nothing_orders t c orders)) has
 enough_reply s who (Reported c sent r) reply has =
     let t : AbstractPool = sent_noted s c sent in
-    let u : AbstractPool = after_report t c (Reported c sent r) r in
-    enough s u (nothing_trans s t u (nothing_sent s c sent) (nothing_report t c (Reported c sent r) r)) has
+    let u : AbstractPool = after_report t c r in
+    enough s u (nothing_trans s t u (nothing_sent s c sent) (nothing_report t c r)) has
 enough_reply s who (Closed c sent end heard) reply has =
     let t : AbstractPool = sent_noted s c sent in
-    let u : AbstractPool = after_closed t c end (Closed c sent end heard) in
-    enough s u (nothing_trans s t u (nothing_sent s c sent) (nothing_closed t c end (Closed c sent end heard))) has
+    let u : AbstractPool = after_closed t c end heard in
+    enough s u (nothing_trans s t u (nothing_sent s c sent) (nothing_closed t c end heard)) has
 enough_reply s who (Expire e) reply has = absurd reply
 enough_reply s who (Lapse e) reply has = absurd reply
 enough_reply s who (Assign e c r way) reply has = absurd reply

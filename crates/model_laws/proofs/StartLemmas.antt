@@ -19,10 +19,10 @@ use Rattle.model_changes.specs.Connections.{is_start_of, streams_started, closin
 use Rattle.model_laws.proofs.StartSteps.{none_started, start_found, Keeps, Like, keeps_closing, keeps_without_stream, keeps_without_start, keeps_without_exchange, keeps_answered, keeps_after_too_large, keeps_after_goaway, keeps_after_opened, keeps_with_start, keeps_after_shutdown}
 use Rattle.model_histories.proofs.EditLemmas.{edit_other, edit_at, map_at, append_at, each_replicate, each_one}
 use Rattle.model_histories.specs.Reading.{hands_by}
-use Rattle.model_steps.specs.After.{after_submit, released_lease, released_by, released, after_cancel, after_reprioritise, after_preconnect, after_resolved, after_network, after_shut, after_dial, after_orders, connection_after_answer, after_leases, after_alt_seen, after_report, after_expire, after_lapse, after_assign, wanted_connection, after_want_of, after_want, after_evict, sent_noted, after_act}
+use Rattle.model_steps.specs.After.{after_submit, released_lease, released_by, released, after_cancel, after_reprioritise, after_preconnect, after_resolved, after_network, after_shut, after_dial, after_orders, after_alt_seen, after_report, after_expire, after_lapse, after_assign, wanted_connection, after_want_of, after_want, after_evict, sent_noted, after_act}
 use Rattle.model_steps.specs.Opened.{after_useless, after_open_of, after_open}
-use Rattle.model_steps.specs.Answered.{after_answered}
-use Rattle.model_steps.specs.Lost.{is_dial_failed, after_failed_dial, after_closed}
+use Rattle.model_steps.specs.Answered.{after_answered, answered_connection, lease_at}
+use Rattle.model_steps.specs.Lost.{is_dial_failed, after_failed_dial, after_closed, after_lost}
 use Rattle.model_authority.specs.Lists.{numbered, edit}
 use Rattle.model_authority.specs.Ways.{group_for}
 use Rattle.model_values.specs.declared.entry.Act.{Act}
@@ -113,17 +113,17 @@ like_open s c id = by (numbered c.0 s.connections)
     by None = like_same s.connections
     by (Some y) = like_edit c.0 (after_opened (is_some s.shutdown) s.latest id) s.connections (keeps_after_opened (is_some s.shutdown) s.latest id)
 
-like_report : (s : AbstractPool) (c : ConnNo) (act : Act) (r : Report) → AreLike s.connections (after_report s c act r).connections
+like_report : (s : AbstractPool) (c : ConnNo) (r : Report) → AreLike s.connections (after_report s c r).connections
 unfolding after_answered
-like_report s c act (report.Opened id) = like_open s c id
-like_report s c act (report.Limit n) = like_edit c.0 (with_limit n) s.connections (λ x. refl)
-like_report s c act (report.Answered r response keep alt proof) = like_edit c.0 (connection_after_answer s c r keep act) s.connections (keeps_answered s c r keep act)
-like_report s c act (report.Refused r) = like_edit c.0 (without_stream s.latest r) s.connections (keeps_without_stream s.latest r)
-like_report s c act (report.Reset r code) = like_edit c.0 (without_stream s.latest r) s.connections (keeps_without_stream s.latest r)
-like_report s c act (report.TooLarge r) = like_edit c.0 (after_large_answer s.latest r) s.connections (keeps_after_too_large s.latest r)
-like_report s c act (report.StreamClosed r) = like_edit c.0 (without_stream s.latest r) s.connections (keeps_without_stream s.latest r)
-like_report s c act (report.Goaway last) = like_edit c.0 (going_away s.latest c s.exchanges last) s.connections (keeps_after_goaway s.latest c s.exchanges last)
-like_report s c act (report.AltSeen origin alt) = by (numbered c.0 s.connections)
+like_report s c (report.Opened id) = like_open s c id
+like_report s c (report.Limit n) = like_edit c.0 (with_limit n) s.connections (λ x. refl)
+like_report s c (report.Answered r response keep alt proof) = like_edit c.0 (answered_connection s.latest r response keep (lease_at s c r)) s.connections (keeps_answered s c r response keep)
+like_report s c (report.Refused r) = like_edit c.0 (without_stream s.latest r) s.connections (keeps_without_stream s.latest r)
+like_report s c (report.Reset r code) = like_edit c.0 (without_stream s.latest r) s.connections (keeps_without_stream s.latest r)
+like_report s c (report.TooLarge r) = like_edit c.0 (after_large_answer s.latest r) s.connections (keeps_after_too_large s.latest r)
+like_report s c (report.StreamClosed r) = like_edit c.0 (without_stream s.latest r) s.connections (keeps_without_stream s.latest r)
+like_report s c (report.Goaway last) = like_edit c.0 (going_away s.latest c s.exchanges last) s.connections (keeps_after_goaway s.latest c s.exchanges last)
+like_report s c (report.AltSeen origin alt) = by (numbered c.0 s.connections)
   where
     by : (o : Option Connection) → AreLike s.connections (after_alt_seen s origin alt o).connections
     by None = like_same s.connections
@@ -135,19 +135,19 @@ like_useless : (xs : List Connection) (s : AbstractPool) (g : GroupKey) (wanted_
 like_useless xs s g wanted_for how via.Direct like = like
 like_useless xs s g wanted_for how (via.Alternative p) like = like
 
-like_closed : (s : AbstractPool) (c : ConnNo) (end : EndCause) (act : Act) → AreLike s.connections (after_closed s c end act).connections
+like_closed : (s : AbstractPool) (c : ConnNo) (end : EndCause) (heard : List StreamNo) → AreLike s.connections (after_closed s c end heard).connections
 unfolding after_closed
-like_closed s c end act =
-    let left : AbstractPool = after_leases s c act gone in
+like_closed s c end heard =
+    let left : AbstractPool = after_lost s c end heard in
     cond_both (is_dial_failed end) (after_failed_dial left c (numbered c.0 s.connections)) left (λ (t : AbstractPool). AreLike s.connections t.connections)
     (λ t. by (numbered c.0 s.connections)) (λ f. ends)
   where
-    ends : AreLike s.connections (after_leases s c act gone).connections
+    ends : AreLike s.connections (after_lost s c end heard).connections
     ends = like_edit c.0 gone s.connections (λ x. refl)
 
-    by : (o : Option Connection) → AreLike s.connections (after_failed_dial (after_leases s c act gone) c o).connections
+    by : (o : Option Connection) → AreLike s.connections (after_failed_dial (after_lost s c end heard) c o).connections
     by None = ends
-    by (Some x) = like_useless s.connections (after_leases s c act gone) x.group x.wanted_for (outcome.DialFault c) x.group.target.via ends
+    by (Some x) = like_useless s.connections (after_lost s c end heard) x.group x.wanted_for (outcome.DialFault c) x.group.target.via ends
 
 like_sent : (s : AbstractPool) (c : ConnNo) (sent : ℕ) (ys : List Connection) → AreLike (sent_noted s c sent).connections ys → AreLike s.connections ys
 like_sent s c sent ys like n =
@@ -185,10 +185,10 @@ like_act s who (Dial c target) plain = like_edit c.0 (dialing_by who) s.connecti
 like_act s who (Orders c sent orders) plain = absurd plain
 like_act s who (Reported c sent report) plain =
     let t : AbstractPool = sent_noted s c sent in
-    like_sent s c sent (after_report t c (Reported c sent report) report).connections (like_report t c (Reported c sent report) report)
+    like_sent s c sent (after_report t c report).connections (like_report t c report)
 like_act s who (Closed c sent end heard) plain =
     let t : AbstractPool = sent_noted s c sent in
-    like_sent s c sent (after_closed t c end (Closed c sent end heard)).connections (like_closed t c end (Closed c sent end heard))
+    like_sent s c sent (after_closed t c end heard).connections (like_closed t c end heard)
 like_act s who (Expire e) plain = like_released s e
 like_act s who (Lapse e) plain = like_same s.connections
 like_act s who (Assign e c r way) plain = like_edit c.0 (with_start s.config.last_stream e r) s.connections (keeps_with_start s.config.last_stream e r)

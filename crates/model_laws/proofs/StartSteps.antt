@@ -10,12 +10,10 @@ use Rattle.net_base.specs.declared.numbers.ExchangeNo.{ExchangeNo}
 use Rattle.net_base.specs.declared.numbers.Moment.{Moment}
 use Rattle.net_base.specs.declared.numbers.StreamNo.{StreamNo}
 use Rattle.model_changes.specs.Connections.{is_start, is_start_of, streams_started, closing, idle_from, has_run_out, idle_if_run_out, other_streams, without_stream, without_start, without_exchange, suits, opened_with, refused_with, after_opened, with_start, kept_open, without_reset, after_answer, excluding, after_large_answer, streams_left, draining, draining_or_closing, going_away, gone, after_shutdown}
-use Rattle.model_laws.specs.MoveLaws.{may_move}
-use Rattle.model_steps.specs.After.{excluding_moved, connection_after_answer}
-use Rattle.model_steps.specs.Answered.{lease_at}
+use Rattle.net_base.specs.declared.response.Response.{Response}
+use Rattle.model_steps.specs.Answered.{lease_at, is_misdirected, excluding_misdirected, answered_connection}
 use Rattle.model_authority.specs.Lists.{is_nil}
 use Rattle.model_authority.specs.Statuses.{is_wanted, is_open, is_draining, is_closing, is_gone, speaks_h2}
-use Rattle.model_values.specs.declared.entry.Act.{Act}
 use Rattle.model_values.specs.declared.order.OrderMark.{OrderMark}
 use Rattle.model_values.specs.declared.order.OrderMark.TheVariants as mark
 use Rattle.model_values.specs.declared.state.AbstractPool.{AbstractPool}
@@ -100,13 +98,12 @@ keeps_after_answer : (now : Moment) (r : StreamNo) (keep : Bool) → Keeps (afte
 unfolding after_answer
 keeps_after_answer now r keep c = keeps_kept_open keep (without_stream now r (without_reset r c)) ∙ keeps_without_stream now r (without_reset r c)
 
-keeps_excluding : (act : Act) (lease : Option Exchange) → Keeps (excluding_moved act lease)
-unfolding excluding_moved
-keeps_excluding act None c = refl
-keeps_excluding act (Some e) c = cond_both (may_move e act) (excluding e.ask.request.origin c) c (Like c) (λ t. refl) (λ f. refl)
+keeps_excluding : (response : Response) (lease : Option Exchange) → Keeps (excluding_misdirected response lease)
+keeps_excluding response None c = refl
+keeps_excluding response (Some e) c = cond_both (is_misdirected response e) (excluding e.ask.request.origin c) c (Like c) (λ t. refl) (λ f. refl)
 
-pub keeps_answered : (s : AbstractPool) (conn : ConnNo) (r : StreamNo) (keep : Bool) (act : Act) → Keeps (connection_after_answer s conn r keep act)
-keeps_answered s conn r keep act c = keeps_after_answer s.latest r keep (excluding_moved act (lease_at s conn r) c) ∙ keeps_excluding act (lease_at s conn r) c
+pub keeps_answered : (s : AbstractPool) (conn : ConnNo) (r : StreamNo) (response : Response) (keep : Bool) → Keeps (answered_connection s.latest r response keep (lease_at s conn r))
+keeps_answered s conn r response keep c = keeps_after_answer s.latest r keep (excluding_misdirected response (lease_at s conn r) c) ∙ keeps_excluding response (lease_at s conn r) c
 
 pub keeps_after_too_large : (now : Moment) (r : StreamNo) → Keeps (after_large_answer now r)
 unfolding after_large_answer

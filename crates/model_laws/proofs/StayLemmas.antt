@@ -1,7 +1,7 @@
 -- What a change of a connection leaves of it: that it is gone, that it was opened, and that it is neither wanted, open nor draining.
 use Rattle.std.proofs.Common.{◌≡◌, ◌<◌, ◌≤◌, ℕ, List, [], ◌∷◌, ◌++◌, Option, Some, None, Bool, true, false, refl, ap, ◌∙◌, arith, map}
 use Rattle.std.specs.Prelude.{◌+◌, ◌&&◌, ◌||◌, not, filter, nat_lt, if◌then◌else◌}
-use Rattle.std.proofs.lemmas.Bool.{cond_both, and_parts, both_ways, not-true}
+use Rattle.std.proofs.lemmas.Bool.{cond_both, and_parts, or_parts, both_ways, not-true, eqb-true}
 use Rattle.net_base.specs.declared.identity.Identity.{Identity}
 use Rattle.net_base.specs.declared.numbers.CallerNo.{CallerNo}
 use Rattle.net_base.specs.declared.numbers.ConnNo.{ConnNo}
@@ -9,123 +9,34 @@ use Rattle.net_base.specs.declared.numbers.ExchangeNo.{ExchangeNo}
 use Rattle.net_base.specs.declared.numbers.Moment.{Moment}
 use Rattle.net_base.specs.declared.numbers.StreamNo.{StreamNo}
 use Rattle.model_changes.specs.Connections.{closing, idle_from, has_run_out, idle_if_run_out, other_streams, is_start, is_start_of, without_stream, without_start, without_exchange, dialing_by, suits, opened_with, refused_with, after_opened, stream_after, with_start, kept_open, without_reset, after_answer, excluding, after_large_answer, streams_left, draining, draining_or_closing, going_away, gone, after_shutdown}
-use Rattle.model_laws.specs.MoveLaws.{may_move}
-use Rattle.model_laws.specs.EndLaws.{stage_of}
 use Rattle.model_histories.proofs.EditLemmas.{edit_at, map_at, append_at}
-use Rattle.model_histories.proofs.KeepLemmas.{dialing_only}
-use Rattle.model_steps.specs.After.{excluding_moved, connection_after_answer}
-use Rattle.model_steps.specs.Answered.{lease_at}
+use Rattle.net_base.specs.declared.response.Response.{Response}
+use Rattle.model_steps.specs.Answered.{lease_at, is_misdirected, excluding_misdirected, answered_connection}
+use Rattle.model_authority.proofs.PhaseLemmas.{follows, excludes, or_else, stage_most, stage_before_closing}
 use Rattle.model_authority.specs.Lists.{numbered, edit, is_nil}
-use Rattle.model_authority.specs.Statuses.{is_wanted, is_dialing, is_open, is_draining, is_closing, is_gone, is_busy, speaks_h2}
-use Rattle.model_values.specs.declared.entry.Act.{Act}
+use Rattle.model_authority.specs.Statuses.{stage_of, is_wanted, is_dialing, is_open, is_draining, is_closing, is_gone, is_busy, speaks_h2}
 use Rattle.model_values.specs.declared.order.OrderMark.TheVariants as mark
 use Rattle.model_values.specs.declared.state.AbstractPool.{AbstractPool}
 use Rattle.model_values.specs.declared.state.Connection.{Connection}
 use Rattle.model_values.specs.declared.state.Exchange.{Exchange}
 use Rattle.model_values.specs.declared.state.Phase.{Phase}
-use Rattle.model_values.specs.declared.state.Phase.TheVariants.{Wanted, Dialing, Open, Draining, Closing, Gone}
+use Rattle.model_values.specs.declared.state.Phase.TheVariants.{Draining, Closing, Gone}
 
 -- ---- phases
 
 -- it is neither wanted, open nor draining
 abbrev pub is_down : Phase → Bool
-is_down Wanted = false
-is_down Dialing = true
-is_down Open = false
-is_down Draining = false
-is_down Closing = true
-is_down Gone = true
-
-not_gone : (p : Phase) → (is_closing p || is_gone p) ≡ false → is_gone p ≡ false
-not_gone Wanted h = refl
-not_gone Dialing h = refl
-not_gone Open h = refl
-not_gone Draining h = refl
-not_gone Closing h = refl
-not_gone Gone h = absurd cc
-
-wanted_apart : (p : Phase) → is_wanted p ≡ true → (is_gone p ≡ false) × (is_busy p ≡ false) × (is_down p ≡ false)
-wanted_apart Wanted h = (refl, refl, refl)
-wanted_apart Dialing h = absurd cc
-wanted_apart Open h = absurd cc
-wanted_apart Draining h = absurd cc
-wanted_apart Closing h = absurd cc
-wanted_apart Gone h = absurd cc
-
-open_apart : (p : Phase) → is_open p ≡ true → (is_gone p ≡ false) × (is_busy p ≡ true) × (is_down p ≡ false)
-open_apart Wanted h = absurd cc
-open_apart Dialing h = absurd cc
-open_apart Open h = (refl, refl, refl)
-open_apart Draining h = absurd cc
-open_apart Closing h = absurd cc
-open_apart Gone h = absurd cc
-
--- what neither is wanted, nor open or draining
-down_by : (p : Phase) → is_wanted p ≡ false → (is_open p || is_draining p) ≡ false → is_down p ≡ true
-down_by Wanted w u = absurd cc
-down_by Dialing w u = refl
-down_by Open w u = absurd cc
-down_by Draining w u = absurd cc
-down_by Closing w u = refl
-down_by Gone w u = refl
-
-up_not_gone : (p : Phase) → (is_open p || is_draining p) ≡ true → (is_closing p || is_gone p) ≡ false
-up_not_gone Wanted h = absurd cc
-up_not_gone Dialing h = absurd cc
-up_not_gone Open h = refl
-up_not_gone Draining h = refl
-up_not_gone Closing h = absurd cc
-up_not_gone Gone h = absurd cc
-
-stage_most : (p : Phase) → stage_of p ≤ 5
-stage_most Wanted = omega arith
-stage_most Dialing = omega arith
-stage_most Open = omega arith
-stage_most Draining = omega arith
-stage_most Closing = omega arith
-stage_most Gone = omega arith
+is_down p = not (is_wanted p || is_open p || is_draining p)
 
 -- what becomes gone goes forward
 pub stage_gone : (p q : Phase) → q ≡ Gone → stage_of p ≤ stage_of q
 stage_gone p q is = let last : stage_of q ≡ 5 = ap stage_of is in omega (arith, stage_most p)
-
-stage_before_closing : (p : Phase) → (is_closing p || is_gone p) ≡ false → stage_of p ≤ 4
-stage_before_closing Wanted h = omega arith
-stage_before_closing Dialing h = omega arith
-stage_before_closing Open h = omega arith
-stage_before_closing Draining h = omega arith
-stage_before_closing Closing h = absurd cc
-stage_before_closing Gone h = absurd cc
 
 stage_trans : (p q r : Phase) → stage_of p ≤ stage_of q → stage_of q ≤ stage_of r → stage_of p ≤ stage_of r
 stage_trans p q r first second = omega arith
 
 stage_up : (p : Phase) (k m : ℕ) → stage_of p ≡ k → k ≤ m → stage_of p ≤ m
 stage_up p k m is less = omega arith
-
-stage_open : (p : Phase) → is_open p ≡ true → stage_of p ≡ 2
-stage_open Wanted h = absurd cc
-stage_open Dialing h = absurd cc
-stage_open Open h = refl
-stage_open Draining h = absurd cc
-stage_open Closing h = absurd cc
-stage_open Gone h = absurd cc
-
-stage_wanted : (p : Phase) → is_wanted p ≡ true → stage_of p ≡ 0
-stage_wanted Wanted h = refl
-stage_wanted Dialing h = absurd cc
-stage_wanted Open h = absurd cc
-stage_wanted Draining h = absurd cc
-stage_wanted Closing h = absurd cc
-stage_wanted Gone h = absurd cc
-
-stage_dialing : (p : Phase) → is_dialing p ≡ true → stage_of p ≡ 1
-stage_dialing Wanted h = absurd cc
-stage_dialing Dialing h = refl
-stage_dialing Open h = absurd cc
-stage_dialing Draining h = absurd cc
-stage_dialing Closing h = absurd cc
-stage_dialing Gone h = absurd cc
 
 -- ---- one connection, by any change that opens none, dials none, gives no stream and isn't its end
 
@@ -159,7 +70,7 @@ unfolding closing
 stays_closing c =
     let closed : Connection = record c { phase = Closing; orders = mark.Close ∷ [] } in
     cond_both (is_closing c.phase || is_gone c.phase) c closed (Stays c) (λ t. stays_same c)
-    (λ f. record { forward = stage_before_closing c.phase f; final = λ g. absurd (both_ways (is_gone c.phase) (not_gone c.phase f) g); busy = λ h. refl; next = omega arith; down = λ h. refl })
+    (λ f. record { forward = stage_before_closing c.phase f; final = λ g. absurd (both_ways (is_gone c.phase) (or_parts (is_closing c.phase) (is_gone c.phase) f).1 g); busy = λ h. refl; next = omega arith; down = λ h. refl })
 
 stays_idle_from : (now : Moment) (c : Connection) → Stays c (idle_from now c)
 unfolding idle_from
@@ -202,17 +113,16 @@ stays_after_answer now r keep c =
     let k : Stays c left = stays_trans c less left (stays_phase c less refl refl) (stays_without_stream now r less) in
     stays_trans c left (kept_open keep left) k (stays_kept_open keep left)
 
-stays_excluding : (act : Act) (lease : Option Exchange) (c : Connection) → Stays c (excluding_moved act lease c)
-unfolding excluding_moved
-stays_excluding act None c = stays_same c
-stays_excluding act (Some e) c =
+stays_excluding : (response : Response) (lease : Option Exchange) (c : Connection) → Stays c (excluding_misdirected response lease c)
+stays_excluding response None c = stays_same c
+stays_excluding response (Some e) c =
     let without : Connection = excluding e.ask.request.origin c in
-    cond_both (may_move e act) without c (Stays c) (λ t. stays_phase c without refl refl) (λ f. stays_same c)
+    cond_both (is_misdirected response e) without c (Stays c) (λ t. stays_phase c without refl refl) (λ f. stays_same c)
 
-pub stays_answered : (s : AbstractPool) (conn : ConnNo) (r : StreamNo) (keep : Bool) (act : Act) (c : Connection) → Stays c (connection_after_answer s conn r keep act c)
-stays_answered s conn r keep act c =
-    let moved : Connection = excluding_moved act (lease_at s conn r) c in
-    stays_trans c moved (after_answer s.latest r keep moved) (stays_excluding act (lease_at s conn r) c) (stays_after_answer s.latest r keep moved)
+pub stays_answered : (s : AbstractPool) (conn : ConnNo) (r : StreamNo) (response : Response) (keep : Bool) (c : Connection) → Stays c (answered_connection s.latest r response keep (lease_at s conn r) c)
+stays_answered s conn r response keep c =
+    let moved : Connection = excluding_misdirected response (lease_at s conn r) c in
+    stays_trans c moved (after_answer s.latest r keep moved) (stays_excluding response (lease_at s conn r) c) (stays_after_answer s.latest r keep moved)
 
 pub stays_after_too_large : (now : Moment) (r : StreamNo) (c : Connection) → Stays c (after_large_answer now r c)
 unfolding after_large_answer
@@ -225,8 +135,7 @@ stays_draining c =
     let drained : Connection = record c { phase = Draining } in
     cond_both (is_open c.phase) drained c (Stays c)
     (λ t.
-    let apart = open_apart c.phase t in
-    record { forward = stage_up c.phase 2 3 (stage_open c.phase t) (omega arith); final = λ h. absurd (both_ways (is_gone c.phase) apart.0 h); busy = λ h. refl; next = omega arith; down = λ h. absurd (both_ways (is_down c.phase) apart.2 h) })
+    record { forward = stage_up c.phase 2 3 (eqb-true (stage_of c.phase) 2 t) (omega arith); final = λ h. absurd (both_ways (is_gone c.phase) (excludes is_open is_gone refl c.phase t) h); busy = λ h. refl; next = omega arith; down = λ h. absurd (both_ways (is_down c.phase) (excludes is_open is_down refl c.phase t) h) })
     (λ f. stays_same c)
 
 stays_drained : (c : Connection) → Stays c (draining_or_closing c)
@@ -246,8 +155,7 @@ stays_after_shutdown c =
     let up : Connection = if is_open c.phase || is_draining c.phase then closing c else c in
     cond_both (is_wanted c.phase) (gone c) up (Stays c)
     (λ w.
-    let apart = wanted_apart c.phase w in
-    record { forward = stage_most c.phase; final = λ h. refl; busy = λ h. absurd (both_ways (is_busy c.phase) apart.1 h); next = omega arith; down = λ h. refl })
+    record { forward = stage_most c.phase; final = λ h. refl; busy = λ h. absurd (both_ways (is_busy c.phase) (excludes is_wanted is_busy refl c.phase w) h); next = omega arith; down = λ h. refl })
     (λ f. cond_both (is_open c.phase || is_draining c.phase) (closing c) c (Stays c) (λ t. stays_closing c) (λ g. stays_same c))
 
 -- a shutdown leaves each connection down
@@ -256,12 +164,12 @@ unfolding after_shutdown closing
 down_after_shutdown c =
     let up : Connection = if is_open c.phase || is_draining c.phase then closing c else c in
     cond_both (is_wanted c.phase) (gone c) up (λ (x : Connection). is_down x.phase ≡ true) (λ w. refl)
-    (λ f. cond_both (is_open c.phase || is_draining c.phase) (closing c) c (λ (x : Connection). is_down x.phase ≡ true) closed (λ g. down_by c.phase f g))
+    (λ f. cond_both (is_open c.phase || is_draining c.phase) (closing c) c (λ (x : Connection). is_down x.phase ≡ true) closed (λ g. or_else is_wanted (λ p. is_open p || is_draining p) is_down refl c.phase f g))
   where
     closed : (is_open c.phase || is_draining c.phase) ≡ true → is_down (closing c).phase ≡ true
     closed t =
         cond_both (is_closing c.phase || is_gone c.phase) c (record c { phase = Closing; orders = mark.Close ∷ [] }) (λ (x : Connection). is_down x.phase ≡ true)
-        (λ g. absurd (both_ways (is_closing c.phase || is_gone c.phase) (up_not_gone c.phase t) g)) (λ g. refl)
+        (λ g. absurd (both_ways (is_closing c.phase || is_gone c.phase) (excludes (λ p. is_open p || is_draining p) (λ p. is_closing p || is_gone p) refl c.phase t) g)) (λ g. refl)
 
 -- ---- one connection, by any act
 
@@ -290,11 +198,10 @@ turns_trans shut closes x y z k l = record {
 
 pub turns_dialing : (shut closes : Bool) (who : CallerNo) (c : Connection) → is_wanted c.phase ≡ true → Turns shut closes c (dialing_by who c)
 turns_dialing shut closes who c wanted =
-    let apart = wanted_apart c.phase wanted in
     record {
-      forward = stage_up c.phase 0 1 (stage_wanted c.phase wanted) (omega arith);
-      final = λ h. absurd (both_ways (is_gone c.phase) apart.0 h);
-      busy = λ f h. absurd (both_ways (is_busy c.phase) apart.1 h);
+      forward = stage_up c.phase 0 1 (eqb-true (stage_of c.phase) 0 wanted) (omega arith);
+      final = λ h. absurd (both_ways (is_gone c.phase) (excludes is_wanted is_gone refl c.phase wanted) h);
+      busy = λ f h. absurd (both_ways (is_busy c.phase) (excludes is_wanted is_busy refl c.phase wanted) h);
       next = λ f h. omega arith;
       down = λ t h. refl;
     }
@@ -304,14 +211,13 @@ pub turns_opened : (shut closes is_shut : Bool) (now : Moment) (id : Identity) (
     Turns shut closes c (after_opened is_shut now id c)
 unfolding after_opened
 turns_opened shut closes is_shut now id c dialing claim =
-    let only = dialing_only c.phase dialing in
     let shown : Connection = record c { identity = Some id } in
     cond_both (not is_shut && suits c.group id) (opened_with now id c) (refused_with id c) (Turns shut closes c)
     (λ t. record {
-      forward = stage_up c.phase 1 2 (stage_dialing c.phase dialing) (omega arith);
-      final = λ h. absurd (both_ways (is_gone c.phase) only.3 h);
+      forward = stage_up c.phase 1 2 (eqb-true (stage_of c.phase) 1 dialing) (omega arith);
+      final = λ h. absurd (both_ways (is_gone c.phase) (excludes is_dialing is_gone refl c.phase dialing) h);
       busy = λ f h. refl;
-      next = λ f h. absurd (both_ways (is_busy c.phase) only.1 h);
+      next = λ f h. absurd (both_ways (is_busy c.phase) (excludes is_dialing is_busy refl c.phase dialing) h);
       down = λ is h. absurd (both_ways is_shut (not-true is_shut (and_parts (not is_shut) (suits c.group id) t).0) (claim is));
     })
     (λ f. turns_stays shut closes c (closing shown) (stays_trans c shown (closing shown) (stays_phase c shown refl refl) (stays_closing shown)))
@@ -323,12 +229,12 @@ stream_rises r c = cond_both (speaks_h2 c) (r.0 + 2) (r.0 + 1) (λ k. r.0 < k) (
 pub busy_with_start : (last : ℕ) (e : ExchangeNo) (r : StreamNo) (c : Connection) → is_open c.phase ≡ true → is_busy (with_start last e r c).phase ≡ true
 unfolding with_start
 busy_with_start last e r c opened =
-    cond_both (nat_lt last (stream_after r c)) Draining c.phase (λ (p : Phase). is_busy p ≡ true) (λ t. refl) (λ f. (open_apart c.phase opened).1)
+    cond_both (nat_lt last (stream_after r c)) Draining c.phase (λ (p : Phase). is_busy p ≡ true) (λ t. refl) (λ f. follows is_open is_busy refl c.phase opened)
 
 stage_with_start : (last : ℕ) (e : ExchangeNo) (r : StreamNo) (c : Connection) → is_open c.phase ≡ true → stage_of c.phase ≤ stage_of (with_start last e r c).phase
 unfolding with_start
 stage_with_start last e r c opened =
-    cond_both (nat_lt last (stream_after r c)) Draining c.phase (λ (p : Phase). stage_of c.phase ≤ stage_of p) (λ t. stage_up c.phase 2 3 (stage_open c.phase opened) (omega arith)) (λ f. omega arith)
+    cond_both (nat_lt last (stream_after r c)) Draining c.phase (λ (p : Phase). stage_of c.phase ≤ stage_of p) (λ t. stage_up c.phase 2 3 (eqb-true (stage_of c.phase) 2 opened) (omega arith)) (λ f. omega arith)
 
 pub next_with_start : (last : ℕ) (e : ExchangeNo) (r : StreamNo) (c : Connection) → r.0 < (with_start last e r c).next_stream
 unfolding with_start
@@ -337,14 +243,13 @@ next_with_start last e r c = stream_rises r c
 pub turns_with_start : (shut closes : Bool) (last : ℕ) (e : ExchangeNo) (r : StreamNo) (c : Connection) → is_open c.phase ≡ true → r.0 ≡ c.next_stream →
     Turns shut closes c (with_start last e r c)
 turns_with_start shut closes last e r c opened given =
-    let apart = open_apart c.phase opened in
     let rises : r.0 < (with_start last e r c).next_stream = next_with_start last e r c in
     record {
       forward = stage_with_start last e r c opened;
-      final = λ h. absurd (both_ways (is_gone c.phase) apart.0 h);
+      final = λ h. absurd (both_ways (is_gone c.phase) (excludes is_open is_gone refl c.phase opened) h);
       busy = λ f h. busy_with_start last e r c opened;
       next = λ f h. omega arith;
-      down = λ t h. absurd (both_ways (is_down c.phase) apart.2 h);
+      down = λ t h. absurd (both_ways (is_down c.phase) (excludes is_open is_down refl c.phase opened) h);
     }
 
 -- ---- lists of connections

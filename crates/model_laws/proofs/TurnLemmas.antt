@@ -20,9 +20,9 @@ use Rattle.model_histories.proofs.EditLemmas.{edit_here}
 use Rattle.model_histories.proofs.OwnLemmas.{IsOneEdit, IsGivenUp, one_after, gone_closed}
 use Rattle.model_histories.specs.Legal.{MayReport, MayClose}
 use Rattle.model_histories.specs.Replies.{IsPreconnectReply}
-use Rattle.model_steps.specs.After.{after_submit, released_lease, released_by, released, after_cancel, after_reprioritise, after_preconnect, after_resolved, after_network, after_shut, after_dial, after_orders, connection_after_answer, after_alt_seen, after_report, after_expire, after_lapse, after_assign, wanted_connection, after_want_of, after_want, after_evict, sent_noted, after_act}
+use Rattle.model_steps.specs.After.{after_submit, released_lease, released_by, released, after_cancel, after_reprioritise, after_preconnect, after_resolved, after_network, after_shut, after_dial, after_orders, after_alt_seen, after_report, after_expire, after_lapse, after_assign, wanted_connection, after_want_of, after_want, after_evict, sent_noted, after_act}
 use Rattle.model_steps.specs.Opened.{after_open_of, after_open}
-use Rattle.model_steps.specs.Answered.{after_answered}
+use Rattle.model_steps.specs.Answered.{after_answered, answered_connection, lease_at}
 use Rattle.model_steps.specs.Lost.{after_closed}
 use Rattle.model_authority.proofs.NumberLemmas.{value_and, and_value}
 use Rattle.model_authority.specs.Lists.{numbered}
@@ -183,20 +183,20 @@ turned_open shut s c id claim dialing = by (numbered c.0 s.connections)
         turned_edit shut false c.0 (after_opened (is_some s.shutdown) s.latest id) s.connections
         (λ x is_item. turns_opened shut false (is_some s.shutdown) s.latest id x (at_item (λ z. IsTrue (is_dialing z.phase)) c.0 s.connections x dialing is_item) claim)
 
-turned_report : (shut : Bool) (s : AbstractPool) (c : ConnNo) (act : Act) (r : Report) → (shut ≡ true → IsSome s.shutdown) → IsSomeAnd (numbered c.0 s.connections) (λ x. MayReport x r) →
-    AreTurned shut false s.connections (after_report s c act r).connections
+turned_report : (shut : Bool) (s : AbstractPool) (c : ConnNo) (r : Report) → (shut ≡ true → IsSome s.shutdown) → IsSomeAnd (numbered c.0 s.connections) (λ x. MayReport x r) →
+    AreTurned shut false s.connections (after_report s c r).connections
 unfolding after_answered
-turned_report shut s c act (report.Opened id) claim fit = turned_open shut s c id claim fit
-turned_report shut s c act (report.Limit n) claim fit = turned_by shut false c.0 (with_limit n) s.connections (λ x. stays_phase x (with_limit n x) refl refl)
-turned_report shut s c act (report.Answered r response keep alt proof) claim fit =
-    turned_by shut false c.0 (connection_after_answer s c r keep act) s.connections (stays_answered s c r keep act)
-turned_report shut s c act (report.Refused r) claim fit = turned_by shut false c.0 (without_stream s.latest r) s.connections (stays_without_stream s.latest r)
-turned_report shut s c act (report.Reset r code) claim fit = turned_by shut false c.0 (without_stream s.latest r) s.connections (stays_without_stream s.latest r)
-turned_report shut s c act (report.TooLarge r) claim fit = turned_by shut false c.0 (after_large_answer s.latest r) s.connections (stays_after_too_large s.latest r)
-turned_report shut s c act (report.StreamClosed r) claim fit = turned_by shut false c.0 (without_stream s.latest r) s.connections (stays_without_stream s.latest r)
-turned_report shut s c act (report.Goaway last) claim fit =
+turned_report shut s c (report.Opened id) claim fit = turned_open shut s c id claim fit
+turned_report shut s c (report.Limit n) claim fit = turned_by shut false c.0 (with_limit n) s.connections (λ x. stays_phase x (with_limit n x) refl refl)
+turned_report shut s c (report.Answered r response keep alt proof) claim fit =
+    turned_by shut false c.0 (answered_connection s.latest r response keep (lease_at s c r)) s.connections (stays_answered s c r response keep)
+turned_report shut s c (report.Refused r) claim fit = turned_by shut false c.0 (without_stream s.latest r) s.connections (stays_without_stream s.latest r)
+turned_report shut s c (report.Reset r code) claim fit = turned_by shut false c.0 (without_stream s.latest r) s.connections (stays_without_stream s.latest r)
+turned_report shut s c (report.TooLarge r) claim fit = turned_by shut false c.0 (after_large_answer s.latest r) s.connections (stays_after_too_large s.latest r)
+turned_report shut s c (report.StreamClosed r) claim fit = turned_by shut false c.0 (without_stream s.latest r) s.connections (stays_without_stream s.latest r)
+turned_report shut s c (report.Goaway last) claim fit =
     turned_by shut false c.0 (going_away s.latest c s.exchanges last) s.connections (stays_after_goaway s.latest c s.exchanges last)
-turned_report shut s c act (report.AltSeen origin alt) claim fit = by (numbered c.0 s.connections)
+turned_report shut s c (report.AltSeen origin alt) claim fit = by (numbered c.0 s.connections)
   where
     by : (o : Option Connection) → AreTurned shut false s.connections (after_alt_seen s origin alt o).connections
     by None = turned_same shut false s.connections
@@ -220,8 +220,8 @@ turned_reported shut s who c sent r claim fit =
     let t : AbstractPool = sent_noted s c sent in
     let v = value_and (numbered c.0 s.connections) (λ x. MayReport x r) fit in
     let first : numbered c.0 t.connections ≡ Some (with_sent sent v.0) = edit_here c.0 (with_sent sent) s.connections v.0 v.1 in
-    turned_trans shut false s.connections t.connections (after_report t c (Reported c sent r) r).connections (turned_sent shut false s c sent)
-    (turned_report shut t c (Reported c sent r) r (λ h. (claim h).0) (and_value (numbered c.0 t.connections) (λ x. MayReport x r) (with_sent sent v.0) first (report_sent sent v.0 r v.2)))
+    turned_trans shut false s.connections t.connections (after_report t c r).connections (turned_sent shut false s c sent)
+    (turned_report shut t c r (λ h. (claim h).0) (and_value (numbered c.0 t.connections) (λ x. MayReport x r) (with_sent sent v.0) first (report_sent sent v.0 r v.2)))
 
 -- ---- the end of a connection
 
@@ -253,8 +253,8 @@ turned_closed shut s who c sent end heard fit =
     let act : Act = Closed c sent end heard in
     let v = value_and (numbered c.0 s.connections) (λ x. MayClose x end) fit in
     let first : numbered c.0 t.connections ≡ Some (with_sent sent v.0) = edit_here c.0 (with_sent sent) s.connections v.0 v.1 in
-    turned_gone shut c.0 v.0 s.connections (after_closed t c end act).connections v.1
-    (one_after IsGivenUp c.0 (with_sent sent) s.connections (after_closed t c end act).connections v.0 (gone_closed t c end act (with_sent sent v.0) first))
+    turned_gone shut c.0 v.0 s.connections (after_closed t c end heard).connections v.1
+    (one_after IsGivenUp c.0 (with_sent sent) s.connections (after_closed t c end heard).connections v.0 (gone_closed t c end heard (with_sent sent v.0) first))
 
 -- ---- any act
 

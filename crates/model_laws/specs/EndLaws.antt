@@ -19,11 +19,10 @@ use Rattle.model_values.specs.declared.reply.PreconnectReply.TheVariants as prec
 use Rattle.model_values.specs.declared.reply.ShutReply.TheVariants as shut
 use Rattle.model_values.specs.declared.reply.SubmitReply.TheVariants as submit
 use Rattle.model_values.specs.declared.state.Connection.{Connection}
-use Rattle.model_values.specs.declared.state.Phase.{Phase}
-use Rattle.model_values.specs.declared.state.Phase.TheVariants.{Wanted, Dialing, Open, Draining, Closing, Gone}
+use Rattle.model_values.specs.declared.state.Phase.TheVariants.{Open, Gone}
 use Rattle.model_values.specs.declared.state.Status.TheVariants.{Ended}
 use Rattle.model_authority.specs.Lists.{numbered}
-use Rattle.model_authority.specs.Statuses.{is_closing}
+use Rattle.model_authority.specs.Statuses.{stage_of, is_closing}
 
 -- an exchange that has ended stays so, with its outcome
 abbrev pub EndedStaysEnded : Type 0
@@ -36,15 +35,6 @@ abbrev pub GoneStaysGone : Type 0
 GoneStaysGone =
     (config : Config) (h : List Entry) (n m : ℕ) (c : ConnNo) → IsHistory config h → n ≤ m →
     OfConnection (state_at config h n) c (λ connection. connection.phase ≡ Gone) → OfConnection (state_at config h m) c (λ connection. connection.phase ≡ Gone)
-
--- the phases of a connection in their order
-abbrev pub stage_of : Phase → ℕ
-stage_of Wanted = 0
-stage_of Dialing = 1
-stage_of Open = 2
-stage_of Draining = 3
-stage_of Closing = 4
-stage_of Gone = 5
 
 -- a connection never goes back: one that drains or closes isn't open again
 abbrev pub ConnectionsGoForward : Type 0
