@@ -15,14 +15,14 @@ use journal_words::{
     addresses_text, cause_text, credentials_text, origin_text, put, put_number, put_target,
     streams_text, way_text,
 };
-use net_base::{
-    Addresses, ConnNo, EndCause, ExchangeNo, NoMem, Octets, Origin, StreamList, StreamNo, Target,
-};
-use partition_keys::{PartitionKey, write_site};
 use model_values::{
     Act, CancelReply, ChangeReply, OrderMarks, PreconnectReply, Report, ResolvedReply, ShutReply,
     Submission, SubmitReply, Way,
 };
+use net_base::{
+    Addresses, ConnNo, EndCause, ExchangeNo, NoMem, Octets, Origin, StreamList, StreamNo, Target,
+};
+use partition_keys::{PartitionKey, write_site};
 use std::alloc::Global;
 
 /// A name, and the number of an exchange or a connection.

@@ -4,8 +4,8 @@ ghost use Rattle.journal_lines.specs.Lines as spec;
 
 use crate::acts::put_act;
 use journal_words::{number_text, put_number};
-use net_base::{NoMem, Octets};
 use model_values::Entry;
+use net_base::{NoMem, Octets};
 use std::alloc::Global;
 
 /// Writes an entry as one line, with its LF: the moment in milliseconds, the caller, and the act with its reply.

@@ -11,9 +11,9 @@ use journal_words::{
     credentials_text, deadline_text, fields_text, hex_text, list_text, octets_text, origin_text,
     proto_text, put, put_number, security_text,
 };
+use model_values::{OrderMark, Submission};
 use net_base::{Identity, NoMem, Octets, Request, Response};
 use partition_keys::write_site;
-use model_values::{OrderMark, Submission};
 use std::alloc::Global;
 
 /// METHOD ORIGIN PATH FIELDS BODY.

@@ -11,9 +11,9 @@ use journal_words::{
     WordFault, read_addresses, read_credentials, read_deadline, read_either, read_fields, read_key,
     read_octets, read_origin_word, read_u8, read_u32, read_u64,
 };
+use model_values::{Act, Submission, SubmitReply};
 use net_base::{ExchangeNo, Moment, Octets, Request};
 use partition_keys::PartitionKey;
-use model_values::{Act, Submission, SubmitReply};
 use std::alloc::Global;
 
 /// The number of an exchange.

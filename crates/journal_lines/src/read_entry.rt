@@ -14,8 +14,8 @@ use crate::read_works::{
     read_reported, read_want,
 };
 use journal_words::{WordFault, parts, read_moment, read_u32};
-use net_base::CallerNo;
 use model_values::{Act, Entry};
+use net_base::CallerNo;
 use std::alloc::Global;
 
 /// Reads the words of a line, which stands here without its LF. More lines than those that are written are read, so

@@ -4,10 +4,10 @@ ghost use Rattle.journal_words.specs.Readers.{Gives};
 ghost use Rattle.journal_lines.specs.LineReaders as spec;
 
 use journal_words::{WordFault, read_u32, read_u64};
-use net_base::ExchangeNo;
 use model_values::{
     CancelReply, ChangeReply, PreconnectReply, ResolvedReply, ShutReply, SubmitReply,
 };
+use net_base::ExchangeNo;
 use std::alloc::Global;
 
 /// The reply to a submission.

@@ -7,8 +7,8 @@ use journal_words::{
     WordFault, read_address, read_alt, read_either, read_fields, read_names, read_octets,
     read_origin_word, read_proof, read_proto, read_security, read_stream, read_u16, read_u32,
 };
-use net_base::{Identity, Response, StreamNo};
 use model_values::Report;
+use net_base::{Identity, Response, StreamNo};
 use std::alloc::Global;
 
 /// A report by its name.

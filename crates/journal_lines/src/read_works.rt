@@ -9,8 +9,8 @@ use crate::read_reports::read_report;
 use journal_words::{
     WordFault, read_cause, read_stream, read_streams, read_target, read_u32, read_u64, read_way,
 };
-use net_base::ConnNo;
 use model_values::{Act, OrderMark, OrderMarks};
+use net_base::ConnNo;
 use std::alloc::Global;
 
 /// The number of a connection.

@@ -5,10 +5,10 @@ ghost use Rattle.journal_lines.specs.Lines as spec;
 ghost use Rattle.journal_words.specs.Words.{spaced_words};
 
 use journal_words::{put, put_number};
-use net_base::{NoMem, Octets};
 use model_values::{
     CancelReply, ChangeReply, PreconnectReply, ResolvedReply, ShutReply, SubmitReply,
 };
+use net_base::{NoMem, Octets};
 use std::alloc::Global;
 
 /// A word and a number.

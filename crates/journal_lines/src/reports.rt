@@ -6,9 +6,9 @@ ghost use Rattle.journal_words.specs.Words.{spaced_words, alt_words, proof_words
 
 use crate::parts::{put_identity, put_response};
 use journal_words::{origin_text, put, put_alt, put_number, put_proof};
+use model_values::Report;
 use net_base::{NoMem, Octets, Origin, Response, StreamNo};
 use partition_keys::{AltUpdate, Proof};
-use model_values::Report;
 use std::alloc::Global;
 
 /// The name of a report.

@@ -8,6 +8,7 @@ ghost use Rattle.journal_words.specs.Readers.{Gives};
 use crate::faults::WordFault;
 use crate::texts::number_text;
 use hex::{FromHex, FromHexError};
+use model_values::Way;
 use net_base::{
     Addresses, EndCause, Field, Fields, Listed, Moment, Names, Octets, Origin, Proto, Scheme,
     StreamList, StreamNo, Target, Via,
@@ -15,7 +16,6 @@ use net_base::{
 use partition_keys::{
     AltUpdate, Alternative, Alternatives, PartitionKey, Proof, SiteFault, Why, read_site,
 };
-use model_values::Way;
 use std::alloc::{AllocError, Global};
 
 /// How a word is read.

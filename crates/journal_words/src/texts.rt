@@ -4,12 +4,12 @@ ghost use Rattle.std.specs.Fmt.{decimal};
 ghost use Rattle.hex.specs.Hex.{encode_lower};
 ghost use Rattle.journal_words.specs.Words as spec;
 
+use model_values::Way;
 use net_base::{
     Addresses, EndCause, Field, Fields, Listed, Moment, NoMem, Octets, Origin, Proto, Scheme,
     StreamList, StreamNo, Via,
 };
 use partition_keys::{Alternative, Alternatives, Why};
-use model_values::Way;
 use std::alloc::Global;
 
 /// A number in decimal.

@@ -4,12 +4,12 @@ ghost use Rattle.model_histories.specs.Legal.{HasOnePart};
 ghost use Rattle.model_histories.specs.Port.{PortView, Leaves, LeavesNone, IsLookAt, IsSeekAt, IsOrdersAt, MayWorkBy, MayReportBy, MayCloseBy};
 ghost use Rattle.model_values.specs.declared.entry.Act.TheVariants as act;
 
-use net_base::{Addresses, EndCause, ExchangeNo, Moment, NoMem, Octets, Origin, StreamList};
-use partition_keys::PartitionKey;
 use model_values::{
     CancelReply, ChangeReply, ConnTicket, Look, OrdersReply, PreconnectReply, Report,
     ResolvedReply, Seek, ShutReply, Submission, SubmitReply, TicketKept,
 };
+use net_base::{Addresses, EndCause, ExchangeNo, Moment, NoMem, Octets, Origin, StreamList};
+use partition_keys::PartitionKey;
 use std::alloc::Global;
 
 /// A pool as one caller uses it. Each call leaves its entry once, if it has one, in a history that extends what the

@@ -5,17 +5,17 @@ ghost use Rattle.std.specs.Str.{bytes_eq};
 ghost use Rattle.model_histories.specs.Legal as legal;
 ghost use Rattle.model_histories.specs.Replies as spec;
 
-use net_base::{Addresses, CallerNo, EndCause, ExchangeNo, PlainValue, Scheme, StreamNo};
-use partition_keys::PartitionKey;
+use model_authority::keys::GroupParts;
+use model_authority::lists::numbered;
+use model_authority::statuses::{has_ended, is_busy, is_dialing};
 use model_settling::counts::{count_in_group, count_total};
 use model_settling::room::planned;
 use model_values::{
     AbstractPool, CancelReply, ChangeReply, Connection, Exchange, OrderMarks, PreconnectReply,
     Report, ResolvedReply, ShutReply, Submission, SubmitReply,
 };
-use model_authority::keys::GroupParts;
-use model_authority::lists::numbered;
-use model_authority::statuses::{has_ended, is_busy, is_dialing};
+use net_base::{Addresses, CallerNo, EndCause, ExchangeNo, PlainValue, Scheme, StreamNo};
+use partition_keys::PartitionKey;
 
 /// The exchange of this number, where it is this caller's.
 #[tactic(auto, unfolding(crate::specs::Replies::own_exchange))]

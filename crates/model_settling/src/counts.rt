@@ -3,9 +3,9 @@ ghost use Rattle.std.specs.Prelude.{◌≡◌, count_by};
 ghost use Rattle.partition_keys.specs.Equality as equality;
 ghost use Rattle.model_settling.specs.Counts as spec;
 
-use model_values::{AbstractPool, Connection, Exchange};
 use model_authority::keys::{GroupParts, parts_of_group, same_group};
 use model_authority::statuses::{is_gone, is_leased, is_opening};
+use model_values::{AbstractPool, Connection, Exchange};
 
 /// Whether the connection has this group.
 pub fn in_group(g: &GroupParts, c: &Connection) -> bool

@@ -1,7 +1,7 @@
 // What the pool is to do by itself.
 
-use net_base::{ConnNo, ExchangeNo, StreamNo};
 use model_values::Way;
+use net_base::{ConnNo, ExchangeNo, StreamNo};
 
 /// What the pool is to do by itself. The target of a connection that is wanted is that of its exchange.
 #[derive(Clone, Copy, Debug, PartialEq, Eq)]

@@ -10,13 +10,13 @@ ghost use Rattle.model_authority.specs.Ways as ways;
 use crate::due::{Best, Due};
 use crate::room::is_total_full;
 use crate::settling::{can_open, can_start, has_expired, has_lapsed, is_held_back, is_idle};
-use net_base::{ConnNo, ExchangeNo, NoMem, StreamNo};
-use model_values::{
-    AbstractPool, Act, Connection, Exchange, is_assign, is_evict, is_expire, is_lapse,
-};
 use model_authority::lists::numbered;
 use model_authority::statuses::is_closing;
 use model_authority::ways::{has_target, is_usable, target, way};
+use model_values::{
+    AbstractPool, Act, Connection, Exchange, is_assign, is_evict, is_expire, is_lapse,
+};
+use net_base::{ConnNo, ExchangeNo, NoMem, StreamNo};
 use std::alloc::Global;
 
 // ---- the lowest-numbered

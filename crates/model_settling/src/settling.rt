@@ -6,12 +6,12 @@ ghost use Rattle.model_settling.specs.Settling as spec;
 ghost use Rattle.model_authority.specs.Ways as ways;
 
 use crate::room::{eligible, has_room, has_room_but_total};
-use net_base::Moment;
-use partition_keys::{Alternative, is_fresh};
-use model_values::{AbstractPool, Connection, Exchange};
 use model_authority::lists::is_nil;
 use model_authority::statuses::{has_ended, is_h2, is_open, is_waiting};
 use model_authority::ways::{alternatives, is_usable};
+use model_values::{AbstractPool, Connection, Exchange};
+use net_base::Moment;
+use partition_keys::{Alternative, is_fresh};
 
 /// Whether there is a deadline, and it is reached.
 fn has_passed(m: Moment, deadline: Option<Moment>) -> bool

@@ -5,11 +5,11 @@ ghost use Rattle.model_steps.specs.After as after;
 ghost use Rattle.model_histories.specs.Histories as spec;
 ghost use Rattle.model_settling.specs.Settling.{IsSettled};
 
-use net_base::{Moment, NoMem};
 use model_histories::legal::noted;
 use model_settling::settle::is_settled;
 use model_steps::after::after_act;
 use model_values::{AbstractPool, Config, Entry, History, Rows};
+use net_base::{Moment, NoMem};
 use std::alloc::Global;
 
 /// The pool before its first entry.

@@ -4,10 +4,10 @@ ghost use Rattle.model_histories.specs.Histories.{run};
 ghost use Rattle.model_steps.specs.After as after;
 
 use crate::judge::{has_room_for_more, open_pool};
-use net_base::NoMem;
 use model_steps::after::after_act;
 use model_steps::calls::note;
 use model_values::{AbstractPool, Config, Entry};
+use net_base::NoMem;
 use std::alloc::Global;
 
 /// The state becomes the one that the entry leaves. `NoMem` where there is no memory, or where the entries or the connections
