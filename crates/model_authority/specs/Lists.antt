@@ -1,9 +1,14 @@
 -- Items of a list by their numbers, which are counted from 1.
 use Rattle.std.specs.Prelude.{◌≡◌, ◌<◌, ◌⊎◌, ℕ, List, [], ◌∷◌, ◌-◌, ◌==◌, Bool, true, false, Option, Some, None, if◌then◌else◌, IsTrue, IsSomeAnd, slice_get, slice_set}
+use Rattle.std.specs.Borrow.{LendsIf, Fml, RattleType, MutBor, Array}
 
 -- the item of this number
 unfoldable pub numbered : {A : Type 0} → ℕ → List A → Option A
 numbered number xs = if number == 0 then None else slice_get xs (number - 1)
+
+-- where the item of this number is lent, the list ends with what is left there
+abbrev pub lends_numbered : (T : RattleType) → MutBor (List T.Denot) → ℕ → Option (MutBor T.Denot) → Fml
+lends_numbered T list number item = LendsIf (Array T 0) T list item (slice_set list.now (number - 1)) list.now
 
 abbrev pub with_item : {A : Type 0} → List A → ℕ → (A → A) → Option A → List A
 with_item xs i f None = xs
