@@ -2,8 +2,8 @@
 ghost use Rattle.std.specs.Prelude.{◌≡◌};
 ghost use Rattle.model_authority.specs.Statuses as spec;
 
-use net_base::{ConnNo, Identity, Proto, StreamNo};
 use model_values::{Connection, Phase, Status};
+use net_base::{ConnNo, Identity, Proto, StreamNo};
 
 /// Whether it waits for a connection.
 pub fn is_waiting(status: &Status) -> bool

@@ -12,10 +12,10 @@ use crate::keys::{
     same_origin, same_proto, same_target,
 };
 use crate::statuses::{is_h2, is_open, speaks_h2};
+use model_values::{AbstractPool, AltRow, Config, Connection, Exchange, HostRow, Way};
 use net_base::{Identity, Moment, NoMem, Octets, Origin, Scheme, Target, Via};
 use partition_keys::{Alternative, PartitionKey, is_fresh};
 use peer_identity::covers;
-use model_values::{AbstractPool, AltRow, Config, Connection, Exchange, HostRow, Way};
 use std::alloc::Global;
 
 // ---- targets

@@ -1,5 +1,5 @@
 // What becomes of a connection.
-ghost use Rattle.std.specs.Prelude.{◌≡◌, [], ◌∷◌, ◌++◌, not, filter, IfOk, OnOk, None};
+ghost use Rattle.std.specs.Prelude.{◌≡◌, [], ◌∷◌, ◌++◌, not, filter, IfOk, OnOk, None, map};
 ghost use Rattle.std.specs.List.{list_any};
 ghost use Rattle.model_changes.specs.Connections as spec;
 ghost use Rattle.model_authority.specs.Lists.{is_nil};
@@ -488,6 +488,16 @@ pub fn after_shutdown(alloc: Global, c: &mut Connection) -> Result<(), NoMem>
         Phase::Wanted => gone(c),
         Phase::Open | Phase::Draining => closing(alloc, c)?,
         Phase::Dialing | Phase::Closing | Phase::Gone => {}
+    }
+    Ok(())
+}
+
+/// Each one that nobody has yet is gone, and each one that is up closes.
+pub fn shut_all(alloc: Global, list: &mut [Connection]) -> Result<(), NoMem>
+    ensures { OnOk result (list.new ≡ map spec.after_shutdown list.old) }
+{
+    for c in list.iter_mut() {
+        after_shutdown(alloc, c)?;
     }
     Ok(())
 }

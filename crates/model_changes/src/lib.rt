@@ -4,5 +4,4 @@
 
 pub mod alternatives;
 pub mod connections;
-pub mod connections_at;
 pub mod suits;

@@ -7,7 +7,7 @@ ghost use Rattle.model_authority.specs.Statuses as statuses;
 ghost use Rattle.model_steps.specs.Answered as spec;
 
 use crate::exchanges::wait_again;
-use model_authority::lists::numbered;
+use model_authority::lists::{numbered, numbered_mut};
 use model_authority::statuses::is_at;
 use model_changes::alternatives::{
     dropped_alternatives, proven_alternatives, updated_alternatives,
@@ -145,7 +145,7 @@ fn answer_connection(
 }
 
 /// What an answer does to the connection of this number.
-#[tactic(auto, unfolding(model_authority::specs::Lists::edit))]
+#[tactic(auto, unfolding(model_authority::specs::Lists::edit, model_authority::specs::Lists::numbered))]
 fn answer_connection_at(
     alloc: Global,
     list: &mut [Connection],
@@ -158,11 +158,10 @@ fn answer_connection_at(
 ) -> Result<(), NoMem>
     ensures { OnOk result (list.new ≡ edit number (spec.answered_connection now stream response.now keep (option_copied lease.entry)) list.old) }
 {
-    if number > 0 && u64::from(number) <= list.len() as u64 {
-        let c = &mut list[number as usize - 1];
-        answer_connection(alloc, now, stream, response, keep, lease, c)?;
+    match numbered_mut(list, u64::from(number)) {
+        None => Ok(()),
+        Some(c) => answer_connection(alloc, now, stream, response, keep, lease, c),
     }
-    Ok(())
 }
 
 /// An alternative that misdirected the exchange is none.

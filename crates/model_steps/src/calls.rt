@@ -4,14 +4,13 @@ ghost use Rattle.model_steps.specs.After as spec;
 ghost use Rattle.model_changes.specs.Connections as connections;
 ghost use Rattle.model_authority.specs.Ways as ways;
 
-use crate::exchanges::{close_exchanges, end_numbered, hand_all, new_exchange, set_urgency};
+use crate::exchanges::{close_exchanges, end, hand_all, new_exchange, set_urgency};
 use model_authority::keys::{GroupParts, build_group};
-use model_authority::lists::numbered;
+use model_authority::lists::{numbered, numbered_mut};
 use model_authority::ways::{is_host_row_of, target_parts_for};
 use model_changes::alternatives::persistent_alternatives;
-use model_changes::connections::new_connection;
-use model_changes::connections_at::{
-    dialing_by_at, shut_all, with_taken_at, without_exchange_at, without_start_at,
+use model_changes::connections::{
+    dialing_by, new_connection, shut_all, with_taken, without_exchange, without_start,
 };
 use model_values::{
     AbstractPool, CancelReply, ChangeReply, Connection, Exchange, HostRow, OrderMarks, Outcome,
@@ -58,6 +57,7 @@ pub fn after_submit(
 }
 
 /// Takes the lease of this status from its connection.
+#[tactic(auto, unfolding(model_authority::specs::Lists::edit, model_authority::specs::Lists::numbered))]
 fn release_lease(
     alloc: Global,
     now: Moment,
@@ -73,10 +73,13 @@ fn release_lease(
             handed,
             way: _,
         } => {
+            let Some(c) = numbered_mut(list, u64::from(conn.0)) else {
+                return Ok(());
+            };
             if *handed {
-                without_exchange_at(alloc, list, conn.0, *stream)
+                without_exchange(alloc, c, *stream)
             } else {
-                without_start_at(alloc, list, conn.0, now, *stream)
+                without_start(alloc, c, now, *stream)
             }
         }
         Status::Waiting => Ok(()),
@@ -101,7 +104,7 @@ pub fn release(alloc: Global, s: &mut AbstractPool, no: ExchangeNo) -> Result<()
 }
 
 /// A cancel.
-#[tactic(auto, unfolding(crate::specs::After::after_cancel))]
+#[tactic(auto, unfolding(crate::specs::After::after_cancel, model_authority::specs::Lists::edit, model_authority::specs::Lists::numbered))]
 pub fn after_cancel(
     alloc: Global,
     s: &mut AbstractPool,
@@ -113,7 +116,9 @@ pub fn after_cancel(
     match reply {
         CancelReply::Cancelled => {
             release(alloc, s, no)?;
-            end_numbered(s.exchanges.items.as_mut_slice(), no.0, Outcome::Cancelled);
+            if let Some(e) = numbered_mut(s.exchanges.items.as_mut_slice(), no.0) {
+                end(e, Outcome::Cancelled);
+            }
             Ok(())
         }
         CancelReply::Unknown => Ok(()),
@@ -122,12 +127,16 @@ pub fn after_cancel(
 }
 
 /// A change of urgency.
-#[tactic(auto, unfolding(crate::specs::After::after_reprioritise))]
+#[tactic(auto, unfolding(crate::specs::After::after_reprioritise, model_authority::specs::Lists::edit, model_authority::specs::Lists::numbered))]
 pub fn after_reprioritise(s: &mut AbstractPool, no: ExchangeNo, urgency: u8, reply: ChangeReply)
     ensures { s.new ≡ spec.after_reprioritise s.old no urgency reply }
 {
     match reply {
-        ChangeReply::Changed => set_urgency(s.exchanges.items.as_mut_slice(), no.0, urgency),
+        ChangeReply::Changed => {
+            if let Some(e) = numbered_mut(s.exchanges.items.as_mut_slice(), no.0) {
+                set_urgency(e, urgency);
+            }
+        }
         ChangeReply::Unknown => {}
         ChangeReply::Ended => {}
     }
@@ -270,15 +279,17 @@ pub fn after_shut(alloc: Global, s: &mut AbstractPool, reply: ShutReply) -> Resu
 }
 
 /// A worker takes a connection to dial.
-#[tactic(auto, unfolding(crate::specs::After::after_dial))]
+#[tactic(auto, unfolding(crate::specs::After::after_dial, model_authority::specs::Lists::edit, model_authority::specs::Lists::numbered))]
 pub fn after_dial(s: &mut AbstractPool, who: CallerNo, conn: ConnNo)
     ensures { s.new ≡ spec.after_dial s.old who conn }
 {
-    dialing_by_at(s.connections.items.as_mut_slice(), conn.0, who);
+    if let Some(c) = numbered_mut(s.connections.items.as_mut_slice(), u64::from(conn.0)) {
+        dialing_by(c, who);
+    }
 }
 
 /// A worker takes its connection's orders.
-#[tactic(auto, unfolding(crate::specs::After::after_orders))]
+#[tactic(auto, unfolding(crate::specs::After::after_orders, model_authority::specs::Lists::edit, model_authority::specs::Lists::numbered))]
 pub fn after_orders(
     alloc: Global,
     s: &mut AbstractPool,
@@ -288,10 +299,8 @@ pub fn after_orders(
     ensures { OnOk result (s.new ≡ spec.after_orders s.old conn orders.now) }
 {
     hand_all(conn, orders.as_slice(), s.exchanges.items.as_mut_slice());
-    with_taken_at(
-        alloc,
-        s.connections.items.as_mut_slice(),
-        conn.0,
-        orders.as_slice(),
-    )
+    match numbered_mut(s.connections.items.as_mut_slice(), u64::from(conn.0)) {
+        None => Ok(()),
+        Some(c) => with_taken(alloc, c, orders.as_slice()),
+    }
 }

@@ -6,6 +6,7 @@ ghost use Rattle.model_steps.specs.Exchanges as spec;
 ghost use Rattle.model_authority.specs.Lists.{edit};
 ghost use Rattle.model_values.specs.declared.state.Status.TheVariants.{Leased};
 
+use model_authority::lists::numbered_mut;
 use model_authority::statuses::is_waiting;
 use model_changes::connections::is_start_of;
 use model_values::{Exchange, OrderMark, Outcome, Status, Submission, Way};
@@ -94,15 +95,11 @@ pub fn close_exchanges(list: &mut [Exchange])
     }
 }
 
-/// Ends the exchange of this number.
-#[tactic(auto, unfolding(model_authority::specs::Lists::edit))]
-pub fn end_numbered(list: &mut [Exchange], number: u64, how: Outcome)
-    ensures { list.new ≡ edit number (spec.ended_by how) list.old }
+/// Ends the exchange.
+pub fn end(e: &mut Exchange, how: Outcome)
+    ensures { e.new ≡ spec.ended_by how e.old }
 {
-    if number > 0 && number <= list.len() as u64 {
-        let e = &mut list[number as usize - 1];
-        e.status = Status::Ended(how);
-    }
+    e.status = Status::Ended(how);
 }
 
 /// Ends the exchange where it waits.
@@ -115,17 +112,17 @@ fn end_if_waiting(e: &mut Exchange, how: Outcome)
 }
 
 /// Ends the exchange of this number where it waits.
-#[tactic(auto, unfolding(model_authority::specs::Lists::edit))]
+#[tactic(auto, unfolding(model_authority::specs::Lists::edit, model_authority::specs::Lists::numbered))]
 pub fn end_numbered_if_waiting(list: &mut [Exchange], number: u64, how: Outcome)
     ensures { list.new ≡ edit number (spec.ended_if_waiting how) list.old }
 {
-    if number > 0 && number <= list.len() as u64 {
-        end_if_waiting(&mut list[number as usize - 1], how);
+    if let Some(e) = numbered_mut(list, number) {
+        end_if_waiting(e, how);
     }
 }
 
 /// Ends the exchange at its deadline.
-fn time_out(e: &mut Exchange)
+pub fn time_out(e: &mut Exchange)
     ensures { e.new ≡ spec.timed_out e.old }
 {
     match e.ask.deadline {
@@ -134,39 +131,21 @@ fn time_out(e: &mut Exchange)
     }
 }
 
-/// Ends the exchange of this number at its deadline.
-#[tactic(auto, unfolding(model_authority::specs::Lists::edit))]
-pub fn time_out_numbered(list: &mut [Exchange], number: u64)
-    ensures { list.new ≡ edit number spec.timed_out list.old }
+/// Sets the exchange's urgency.
+pub fn set_urgency(e: &mut Exchange, urgency: u8)
+    ensures { e.new ≡ spec.with_urgency urgency e.old }
 {
-    if number > 0 && number <= list.len() as u64 {
-        time_out(&mut list[number as usize - 1]);
-    }
+    e.ask.urgency = urgency;
 }
 
-/// Sets the urgency of the exchange of this number.
-#[tactic(auto, unfolding(model_authority::specs::Lists::edit))]
-pub fn set_urgency(list: &mut [Exchange], number: u64, urgency: u8)
-    ensures { list.new ≡ edit number (spec.with_urgency urgency) list.old }
+/// The exchange gets a lease whose start isn't handed yet.
+pub fn lease(e: &mut Exchange, conn: ConnNo, stream: StreamNo, way: Way)
+    ensures { e.new ≡ spec.with_status (Leased conn stream way false) e.old }
 {
-    if number > 0 && number <= list.len() as u64 {
-        let e = &mut list[number as usize - 1];
-        e.ask.urgency = urgency;
-    }
-}
-
-/// The exchange of this number gets a lease whose start isn't handed yet.
-#[tactic(auto, unfolding(model_authority::specs::Lists::edit))]
-pub fn lease_numbered(list: &mut [Exchange], number: u64, conn: ConnNo, stream: StreamNo, way: Way)
-    ensures { list.new ≡ edit number (spec.with_status (Leased conn stream way false)) list.old }
-{
-    if number > 0 && number <= list.len() as u64 {
-        let e = &mut list[number as usize - 1];
-        e.status = Status::Leased {
-            conn,
-            stream,
-            way,
-            handed: false,
-        };
-    }
+    e.status = Status::Leased {
+        conn,
+        stream,
+        way,
+        handed: false,
+    };
 }

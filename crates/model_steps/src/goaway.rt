@@ -1,11 +1,14 @@
 // What a GOAWAY does (RFC 9113, section 6.8).
 ghost use Rattle.std.specs.Prelude.{◌≡◌, OnOk, map};
+ghost use Rattle.model_authority.specs.Lists.{edit};
+ghost use Rattle.model_changes.specs.Connections as connections;
 ghost use Rattle.model_steps.specs.Goaway as spec;
 
 use crate::exchanges::wait_again;
-use model_changes::connections_at::going_away_at;
-use model_values::{AbstractPool, Exchange, Status};
-use net_base::{ConnNo, NoMem, StreamNo};
+use model_authority::lists::numbered_mut;
+use model_changes::connections::going_away;
+use model_values::{AbstractPool, Connection, Exchange, Status};
+use net_base::{ConnNo, Moment, NoMem, StreamNo};
 use std::alloc::Global;
 
 /// Whether the lease is on this connection, and isn't handed yet or is above the last stream.
@@ -42,6 +45,24 @@ fn leave_all_out(c: ConnNo, last: StreamNo, list: &mut [Exchange])
     }
 }
 
+/// The connection takes no further exchange.
+#[tactic(auto, unfolding(model_authority::specs::Lists::edit, model_authority::specs::Lists::numbered))]
+fn leave(
+    alloc: Global,
+    list: &mut [Connection],
+    now: Moment,
+    conn: ConnNo,
+    es: &[Exchange],
+    last: StreamNo,
+) -> Result<(), NoMem>
+    ensures { OnOk result (list.new ≡ edit conn.0 (connections.going_away now conn es.now last) list.old) }
+{
+    match numbered_mut(list, u64::from(conn.0)) {
+        None => Ok(()),
+        Some(c) => going_away(alloc, c, now, conn, es, last),
+    }
+}
+
 /// The peer goes away.
 pub fn after_goaway(
     alloc: Global,
@@ -54,7 +75,7 @@ pub fn after_goaway(
     let now = s.latest;
     let es = s.exchanges.items.as_slice();
     let list = s.connections.items.as_mut_slice();
-    going_away_at(alloc, list, conn.0, now, conn, es, last)?;
+    leave(alloc, list, now, conn, es, last)?;
     leave_all_out(conn, last, s.exchanges.items.as_mut_slice());
     Ok(())
 }

@@ -7,9 +7,9 @@ ghost use Rattle.model_steps.specs.Lost as spec;
 
 use crate::exchanges::wait_again;
 use crate::opened::after_useless;
-use model_authority::lists::numbered;
+use model_authority::lists::{numbered, numbered_mut};
 use model_authority::statuses::is_on;
-use model_changes::connections_at::gone_at;
+use model_changes::connections::gone;
 use model_values::{AbstractPool, Exchange, Outcome, Status};
 use net_base::{ConnNo, EndCause, NoMem, PlainValue, StreamNo, is_idempotent};
 use std::alloc::Global;
@@ -88,11 +88,14 @@ fn lose_all(conn: ConnNo, cause: EndCause, heard: &[StreamNo], list: &mut [Excha
 }
 
 /// The leases of a connection that is gone.
+#[tactic(auto, unfolding(model_authority::specs::Lists::edit, model_authority::specs::Lists::numbered))]
 fn after_lost(s: &mut AbstractPool, conn: ConnNo, cause: EndCause, heard: &[StreamNo])
     ensures { s.new ≡ spec.after_lost s.old conn cause heard.now }
 {
-    gone_at(s.connections.items.as_mut_slice(), conn.0);
     lose_all(conn, cause, heard, s.exchanges.items.as_mut_slice());
+    if let Some(c) = numbered_mut(s.connections.items.as_mut_slice(), u64::from(conn.0)) {
+        gone(c);
+    }
 }
 
 /// A connection is gone.

@@ -5,9 +5,9 @@ ghost use Rattle.model_steps.specs.Opened as spec;
 
 use crate::exchanges::end_numbered_if_waiting;
 use model_authority::keys::{parts_of_group, same_group};
-use model_authority::lists::numbered;
+use model_authority::lists::{numbered, numbered_mut};
 use model_changes::alternatives::broken_alternatives;
-use model_changes::connections_at::after_opened_at;
+use model_changes::connections::after_opened;
 use model_changes::suits::suits;
 use model_values::{AbstractPool, Exchange, Outcome, ProtoRow, Rows};
 use net_base::{ConnNo, ExchangeNo, Identity, NoMem, PlainValue, Proto, Via};
@@ -91,6 +91,7 @@ fn after_identity(
 }
 
 /// Opens the connection of this group.
+#[tactic(auto, unfolding(model_authority::specs::Lists::edit, model_authority::specs::Lists::numbered))]
 fn open_group(
     alloc: Global,
     s: &mut AbstractPool,
@@ -104,14 +105,11 @@ fn open_group(
     let is_shut = s.shutdown.is_some();
     after_identity(alloc, s, conn, &g, wanted_for, id)?;
     with_proto(&mut s.protos, g, id.proto)?;
-    after_opened_at(
-        alloc,
-        s.connections.items.as_mut_slice(),
-        conn.0,
-        is_shut,
-        s.latest,
-        id,
-    )
+    let now = s.latest;
+    match numbered_mut(s.connections.items.as_mut_slice(), u64::from(conn.0)) {
+        None => Ok(()),
+        Some(c) => after_opened(alloc, c, is_shut, now, id),
+    }
 }
 
 /// A connection is opened.

@@ -1,41 +1,60 @@
 // What the entries of the pool itself do to the state.
 ghost use Rattle.std.specs.Prelude.{◌≡◌, OnOk, IfOk, Some};
 ghost use Rattle.model_steps.specs.After as spec;
+ghost use Rattle.model_changes.specs.Connections as connections;
+ghost use Rattle.model_authority.specs.Lists.{edit};
 
 use crate::calls::release;
-use crate::exchanges::{end_numbered, lease_numbered, time_out_numbered};
-use model_authority::lists::numbered;
-use model_changes::connections::new_connection;
-use model_changes::connections_at::{closing_at, with_start_at};
+use crate::exchanges::{end, lease, time_out};
+use model_authority::lists::{numbered, numbered_mut};
+use model_changes::connections::{closing, new_connection, with_start};
 use model_values::{AbstractPool, Connection, Exchange, Outcome, Way};
 use net_base::{ConnNo, ExchangeNo, Moment, NoMem, PlainValue, StreamNo, Target};
 use partition_keys::GroupKey;
 use std::alloc::Global;
 
 /// The exchange's deadline is reached.
-#[tactic(auto, unfolding(crate::specs::After::after_expire))]
+#[tactic(auto, unfolding(crate::specs::After::after_expire, model_authority::specs::Lists::edit, model_authority::specs::Lists::numbered))]
 pub fn after_expire(alloc: Global, s: &mut AbstractPool, no: ExchangeNo) -> Result<(), NoMem>
     ensures { OnOk result (s.new ≡ spec.after_expire s.old no) }
 {
     release(alloc, s, no)?;
-    time_out_numbered(s.exchanges.items.as_mut_slice(), no.0);
+    if let Some(e) = numbered_mut(s.exchanges.items.as_mut_slice(), no.0) {
+        time_out(e);
+    }
     Ok(())
 }
 
 /// The probe's origin has no alternative to ask.
-#[tactic(auto, unfolding(crate::specs::After::after_lapse))]
+#[tactic(auto, unfolding(crate::specs::After::after_lapse, model_authority::specs::Lists::edit, model_authority::specs::Lists::numbered))]
 pub fn after_lapse(s: &mut AbstractPool, no: ExchangeNo)
     ensures { s.new ≡ spec.after_lapse s.old no }
 {
-    end_numbered(
-        s.exchanges.items.as_mut_slice(),
-        no.0,
-        Outcome::NoAlternative,
-    );
+    if let Some(e) = numbered_mut(s.exchanges.items.as_mut_slice(), no.0) {
+        end(e, Outcome::NoAlternative);
+    }
+}
+
+/// The exchange's start is ordered on this connection.
+#[tactic(auto, unfolding(model_authority::specs::Lists::edit, model_authority::specs::Lists::numbered))]
+fn start_on(
+    alloc: Global,
+    list: &mut [Connection],
+    conn: ConnNo,
+    last: u32,
+    no: ExchangeNo,
+    stream: StreamNo,
+) -> Result<(), NoMem>
+    ensures { OnOk result (list.new ≡ edit conn.0 (connections.with_start last no stream) list.old) }
+{
+    match numbered_mut(list, u64::from(conn.0)) {
+        None => Ok(()),
+        Some(c) => with_start(alloc, c, last, no, stream),
+    }
 }
 
 /// The exchange gets a stream of a connection.
-#[tactic(auto, unfolding(crate::specs::After::after_assign))]
+#[tactic(auto, unfolding(crate::specs::After::after_assign, model_authority::specs::Lists::edit, model_authority::specs::Lists::numbered))]
 pub fn after_assign(
     alloc: Global,
     s: &mut AbstractPool,
@@ -46,9 +65,18 @@ pub fn after_assign(
 ) -> Result<(), NoMem>
     ensures { OnOk result (s.new ≡ spec.after_assign s.old no conn stream way) }
 {
-    let list = s.connections.items.as_mut_slice();
-    with_start_at(alloc, list, conn.0, s.config.last_stream, no, stream)?;
-    lease_numbered(s.exchanges.items.as_mut_slice(), no.0, conn, stream, way);
+    let last = s.config.last_stream;
+    start_on(
+        alloc,
+        s.connections.items.as_mut_slice(),
+        conn,
+        last,
+        no,
+        stream,
+    )?;
+    if let Some(e) = numbered_mut(s.exchanges.items.as_mut_slice(), no.0) {
+        lease(e, conn, stream, way);
+    }
     Ok(())
 }
 
@@ -89,9 +117,12 @@ pub fn after_want(
 }
 
 /// An idle connection makes room.
-#[tactic(auto, unfolding(crate::specs::After::after_evict))]
+#[tactic(auto, unfolding(crate::specs::After::after_evict, model_authority::specs::Lists::edit, model_authority::specs::Lists::numbered))]
 pub fn after_evict(alloc: Global, s: &mut AbstractPool, conn: ConnNo) -> Result<(), NoMem>
     ensures { OnOk result (s.new ≡ spec.after_evict s.old conn) }
 {
-    closing_at(alloc, s.connections.items.as_mut_slice(), conn.0)
+    match numbered_mut(s.connections.items.as_mut_slice(), u64::from(conn.0)) {
+        None => Ok(()),
+        Some(c) => closing(alloc, c),
+    }
 }

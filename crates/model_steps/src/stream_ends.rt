@@ -3,8 +3,9 @@ ghost use Rattle.std.specs.Prelude.{◌≡◌, OnOk, map};
 ghost use Rattle.model_steps.specs.StreamEnds as spec;
 
 use crate::exchanges::wait_again;
+use model_authority::lists::numbered_mut;
 use model_authority::statuses::is_at;
-use model_changes::connections_at::{after_large_answer_at, without_stream_at};
+use model_changes::connections::{after_large_answer, without_stream};
 use model_values::{AbstractPool, Exchange, Outcome, Status};
 use net_base::{ConnNo, NoMem, PlainValue, StreamNo};
 use std::alloc::Global;
@@ -60,6 +61,7 @@ fn end_all_at(
 }
 
 /// The stream is closed.
+#[tactic(auto, unfolding(model_authority::specs::Lists::edit, model_authority::specs::Lists::numbered))]
 pub fn after_stream_closed(
     alloc: Global,
     s: &mut AbstractPool,
@@ -69,13 +71,10 @@ pub fn after_stream_closed(
     ensures { OnOk result (s.new ≡ spec.after_stream_closed s.old conn stream) }
 {
     let now = s.latest;
-    without_stream_at(
-        alloc,
-        s.connections.items.as_mut_slice(),
-        conn.0,
-        now,
-        stream,
-    )
+    match numbered_mut(s.connections.items.as_mut_slice(), u64::from(conn.0)) {
+        None => Ok(()),
+        Some(c) => without_stream(alloc, c, now, stream),
+    }
 }
 
 /// The peer refused the stream.
@@ -108,6 +107,7 @@ pub fn after_reset(
 }
 
 /// The answer is longer than what is kept.
+#[tactic(auto, unfolding(model_authority::specs::Lists::edit, model_authority::specs::Lists::numbered))]
 pub fn after_too_large(
     alloc: Global,
     s: &mut AbstractPool,
@@ -116,14 +116,11 @@ pub fn after_too_large(
 ) -> Result<(), NoMem>
     ensures { OnOk result (s.new ≡ spec.after_too_large s.old conn stream) }
 {
-    let now = s.latest;
-    after_large_answer_at(
-        alloc,
-        s.connections.items.as_mut_slice(),
-        conn.0,
-        now,
-        stream,
-    )?;
     let how = Outcome::TooLarge;
-    end_all_at(alloc, conn, stream, &how, s.exchanges.items.as_mut_slice())
+    end_all_at(alloc, conn, stream, &how, s.exchanges.items.as_mut_slice())?;
+    let now = s.latest;
+    match numbered_mut(s.connections.items.as_mut_slice(), u64::from(conn.0)) {
+        None => Ok(()),
+        Some(c) => after_large_answer(alloc, c, now, stream),
+    }
 }

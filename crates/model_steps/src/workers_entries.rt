@@ -7,9 +7,9 @@ use crate::answered::after_answered;
 use crate::goaway::after_goaway;
 use crate::opened::after_open;
 use crate::stream_ends::{after_refused, after_reset, after_stream_closed, after_too_large};
-use model_authority::lists::numbered;
+use model_authority::lists::{numbered, numbered_mut};
 use model_changes::alternatives::updated_alternatives;
-use model_changes::connections_at::{with_limit_at, with_sent_at};
+use model_changes::connections::{with_limit, with_sent};
 use model_values::{AbstractPool, Report};
 use net_base::{ConnNo, NoMem, Origin};
 use partition_keys::AltUpdate;
@@ -38,6 +38,7 @@ fn after_alt_seen(
 }
 
 /// A worker's report.
+#[tactic(auto, unfolding(model_authority::specs::Lists::edit, model_authority::specs::Lists::numbered))]
 pub fn after_report(
     alloc: Global,
     s: &mut AbstractPool,
@@ -49,7 +50,9 @@ pub fn after_report(
     match report {
         Report::Opened(id) => after_open(alloc, s, conn, id),
         Report::Limit(n) => {
-            with_limit_at(s.connections.items.as_mut_slice(), conn.0, *n);
+            if let Some(c) = numbered_mut(s.connections.items.as_mut_slice(), u64::from(conn.0)) {
+                with_limit(c, *n);
+            }
             Ok(())
         }
         Report::Answered {
@@ -69,8 +72,11 @@ pub fn after_report(
 }
 
 /// The octets that the connection's link took so far.
+#[tactic(auto, unfolding(model_authority::specs::Lists::edit, model_authority::specs::Lists::numbered))]
 pub fn note_sent(s: &mut AbstractPool, conn: ConnNo, sent: u64)
     ensures { s.new ≡ spec.sent_noted s.old conn sent }
 {
-    with_sent_at(s.connections.items.as_mut_slice(), conn.0, sent);
+    if let Some(c) = numbered_mut(s.connections.items.as_mut_slice(), u64::from(conn.0)) {
+        with_sent(c, sent);
+    }
 }

@@ -1,7 +1,7 @@
 use Rattle.std.proofs.Common.{◌≡◌, ◌<◌, ◌∙◌, sym, ap, length, arith}
 use Rattle.std.proofs.lemmas.List.Edits.{map_over_more}
 use Rattle.model_changes.specs.Connections as spec
-use Rattle.model_changes.proofs.connections_at.shut_all.Goals as goal
+use Rattle.model_changes.proofs.connections.shut_all.Goals as goal
 
 pub loop-c-preserved : goal.loop-c-preserved
 loop-c-preserved c =
