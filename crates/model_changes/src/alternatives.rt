@@ -12,7 +12,7 @@ use partition_keys::{AltUpdate, Alternative, Alternatives, PartitionKey, Proof};
 use std::alloc::Global;
 
 /// A sum of moments, which stays at the greatest moment.
-pub fn later_by(n: u64, m: Moment) -> Moment
+fn later_by(n: u64, m: Moment) -> Moment
     ensures { result ≡ spec.later_by n m }
 {
     Moment(m.0.saturating_add(n))
@@ -28,7 +28,7 @@ fn is_same_service(a: &Alternative, b: &Alternative) -> bool
 }
 
 /// Whether the alternative is where this target leads.
-pub fn leads_to(t: &Target, a: &Alternative) -> bool
+fn leads_to(t: &Target, a: &Alternative) -> bool
     ensures { result ≡ spec.leads_to t.now a.now }
 {
     same_target(&parts_of_target(t), &alternative_parts(a))

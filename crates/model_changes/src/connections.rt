@@ -5,7 +5,7 @@ ghost use Rattle.model_changes.specs.Connections as spec;
 ghost use Rattle.model_authority.specs.Lists.{is_nil};
 ghost use Rattle.model_authority.specs.Statuses as statuses;
 
-use crate::suits::suits;
+use crate::identity::suits;
 use model_authority::statuses::{is_draining, is_open, is_unsent_at, speaks_h2};
 use model_values::{Connection, Exchange, OrderMark, OrderMarks, Phase};
 use net_base::{
@@ -28,7 +28,7 @@ fn is_empty(streams: &StreamList) -> bool
 // ---- orders
 
 /// Whether this is a start.
-pub fn is_start(m: OrderMark) -> bool
+fn is_start(m: OrderMark) -> bool
     ensures { result ≡ spec.is_start m }
 {
     match m {
@@ -141,7 +141,7 @@ pub fn closing(alloc: Global, c: &mut Connection) -> Result<(), NoMem>
 
 /// It carries nothing from now on. A draining one closes.
 #[tactic(auto, unfolding(crate::specs::Connections::idle_from))]
-pub fn idle_from(alloc: Global, c: &mut Connection, now: Moment) -> Result<(), NoMem>
+fn idle_from(alloc: Global, c: &mut Connection, now: Moment) -> Result<(), NoMem>
     ensures { OnOk result (c.new ≡ spec.idle_from now c.old) }
 {
     c.idle_since = now;
@@ -289,7 +289,7 @@ pub fn after_opened(
 // ---- leases
 
 /// The number of the stream after this one (RFC 9113, section 5.1.1).
-pub fn stream_after(c: &Connection, r: StreamNo) -> u64
+fn stream_after(c: &Connection, r: StreamNo) -> u64
     ensures { result ≡ spec.stream_after r c.now }
 {
     if speaks_h2(c) {
@@ -360,7 +360,7 @@ fn kept_open(alloc: Global, c: &mut Connection, keep: bool) -> Result<(), NoMem>
 }
 
 /// The reset of the stream is taken back.
-pub fn without_reset(alloc: Global, c: &mut Connection, r: StreamNo) -> Result<(), NoMem>
+fn without_reset(alloc: Global, c: &mut Connection, r: StreamNo) -> Result<(), NoMem>
     ensures { OnOk result (c.new ≡ spec.without_reset r c.old) }
 {
     let orders = orders_without_reset(alloc, c.orders.as_slice(), r)?;
@@ -481,7 +481,7 @@ pub fn gone(c: &mut Connection)
 
 /// One that nobody has yet is gone, one that is up closes, and one that is being dialed is left to its worker.
 #[tactic(auto, unfolding(crate::specs::Connections::after_shutdown))]
-pub fn after_shutdown(alloc: Global, c: &mut Connection) -> Result<(), NoMem>
+fn after_shutdown(alloc: Global, c: &mut Connection) -> Result<(), NoMem>
     ensures { OnOk result (c.new ≡ spec.after_shutdown c.old) }
 {
     match c.phase {

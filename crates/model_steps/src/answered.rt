@@ -9,10 +9,9 @@ ghost use Rattle.model_steps.specs.Answered as spec;
 use crate::exchanges::wait_again;
 use model_authority::lists::{numbered, numbered_mut};
 use model_authority::statuses::is_at;
-use model_changes::alternatives::{
-    dropped_alternatives, proven_alternatives, updated_alternatives,
+use model_changes::{
+    after_answer, dropped_alternatives, excluding, proven_alternatives, updated_alternatives,
 };
-use model_changes::connections::{after_answer, excluding};
 use model_values::{AbstractPool, AltRow, Connection, Exchange, Outcome, Rows, Status, Way};
 use net_base::{ConnNo, Moment, NoMem, PlainValue, Response, StreamNo, Target};
 use partition_keys::{AltUpdate, Proof};

@@ -8,9 +8,9 @@ use crate::exchanges::{close_exchanges, end, hand_all, new_exchange, set_urgency
 use model_authority::keys::{GroupParts, build_group};
 use model_authority::lists::{numbered, numbered_mut};
 use model_authority::ways::{is_host_row_of, target_parts_for};
-use model_changes::alternatives::persistent_alternatives;
-use model_changes::connections::{
-    dialing_by, new_connection, shut_all, with_taken, without_exchange, without_start,
+use model_changes::{
+    dialing_by, new_connection, persistent_alternatives, shut_all, with_taken, without_exchange,
+    without_start,
 };
 use model_values::{
     AbstractPool, CancelReply, ChangeReply, Connection, Exchange, HostRow, OrderMarks, Outcome,

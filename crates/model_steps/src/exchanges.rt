@@ -8,7 +8,7 @@ ghost use Rattle.model_values.specs.declared.state.Status.TheVariants.{Leased};
 
 use model_authority::lists::numbered_mut;
 use model_authority::statuses::is_waiting;
-use model_changes::connections::is_start_of;
+use model_changes::is_start_of;
 use model_values::{Exchange, OrderMark, Outcome, Status, Submission, Way};
 use net_base::{CallerNo, ConnNo, StreamNo};
 

@@ -9,7 +9,7 @@ use crate::exchanges::wait_again;
 use crate::opened::after_useless;
 use model_authority::lists::{numbered, numbered_mut};
 use model_authority::statuses::is_on;
-use model_changes::connections::gone;
+use model_changes::gone;
 use model_values::{AbstractPool, Exchange, Outcome, Status};
 use net_base::{ConnNo, EndCause, NoMem, PlainValue, StreamNo, is_idempotent};
 use std::alloc::Global;
