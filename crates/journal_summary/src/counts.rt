@@ -2,9 +2,9 @@
 ghost use Rattle.std.specs.Prelude.{◌≡◌, ◌+◌, IfOk};
 ghost use Rattle.journal_summary.specs.Summary as spec;
 
-use net_base::NoMem;
+use model_authority::has_ended;
 use model_values::{Act, Entry, Exchange, Outcome, PreconnectReply, Status, SubmitReply};
-use model_authority::statuses::has_ended;
+use net_base::NoMem;
 
 /// Whether the act is a submission that was accepted.
 fn is_accepted(act: &Act) -> bool

@@ -6,9 +6,9 @@ use crate::counts::{
     answered_count, cancelled_count, connection_count, failed_count, move_count, submitted_count,
 };
 use journal_words::number_text;
+use model_values::{Config, Exchange, History};
 use net_base::{NoMem, Octets};
 use pool_model::state_of;
-use model_values::{Config, Exchange, History};
 use std::alloc::Global;
 
 /// Writes the summary of the entries of a pool with these limits. `NoMem` too where a count passes 2^64 - 1, or where the

@@ -4,8 +4,9 @@ ghost use Rattle.judged_port.specs.Judged.{port_of};
 ghost use Rattle.model_histories.specs.Port.{MayCloseBy, MayReportBy, MayWorkBy};
 
 use crate::port::JudgedPort;
-use model_histories::laws::{ends_as_state_says, reports_as_state_says, works_as_state_says};
-use model_histories::legal::{may_end, may_tell, may_work};
+use model_histories::{
+    ends_as_state_says, may_end, may_tell, may_work, reports_as_state_says, works_as_state_says,
+};
 use model_values::Report;
 use net_base::{ConnNo, EndCause, NoMem};
 use std::alloc::Global;

@@ -5,8 +5,8 @@ ghost use Rattle.model_histories.specs.Looks.{IsLook};
 ghost use Rattle.model_histories.specs.Reading.{calls_of, is_about};
 ghost use Rattle.model_histories.specs.Replies.{dial_of};
 
-use model_authority::lists::numbered;
-use model_histories::replies::own_exchange;
+use model_authority::numbered;
+use model_histories::own_exchange;
 use model_values::{AbstractPool, Act, Entry, Look, Seek, Status};
 use net_base::{CallerNo, ConnNo, ExchangeNo, NoMem, PlainValue, Target};
 use std::alloc::Global;

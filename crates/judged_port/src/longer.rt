@@ -3,7 +3,7 @@ ghost use Rattle.std.specs.Prelude.{◌≡◌, IfOk, OnOk};
 ghost use Rattle.judged_port.specs.Judged.{Follows, Settles};
 ghost use Rattle.model_histories.specs.Histories.{IsHistory};
 
-use model_settling::settle::{due_act, next_due};
+use model_settling::{due_act, next_due};
 use model_values::{AbstractPool, Act, Config, Entry, History};
 use net_base::{CallerNo, NoMem, PlainValue};
 use pool_model::{first_bad, go_on, has_room_for_more, state_of};

@@ -13,10 +13,9 @@ use crate::orders::orders_by;
 use crate::replies::{
     cancel_reply, change_reply, preconnect_reply, resolved_reply, shut_reply, submit_reply,
 };
-use model_authority::lists::numbered;
-use model_histories::PoolPort;
-use model_histories::legal::{is_late, next_dial};
-use model_steps::calls::note;
+use model_authority::numbered;
+use model_histories::{PoolPort, is_late, next_dial};
+use model_steps::note;
 use model_values::{
     AbstractPool, Act, CancelReply, ChangeReply, Config, ConnTicket, Entry, History, Look,
     OrderMarks, OrdersReply, PreconnectReply, Report, ResolvedReply, Seek, ShutReply, Submission,

@@ -3,11 +3,10 @@ ghost use Rattle.std.specs.Prelude.{◌≡◌, ◌<◌, ◌^◌, length};
 ghost use Rattle.model_histories.specs.Replies as spec;
 ghost use Rattle.model_authority.specs.Ways as ways;
 
-use model_authority::statuses::has_ended;
-use model_histories::replies::{is_bad_probe, own_exchange};
-use model_settling::counts::{count_in_group, count_total};
-use model_settling::room::planned;
-use model_steps::calls::group_parts_for;
+use model_authority::has_ended;
+use model_histories::{is_bad_probe, own_exchange};
+use model_settling::{count_in_group, count_total, planned};
+use model_steps::group_parts_for;
 use model_values::{
     AbstractPool, CancelReply, ChangeReply, PreconnectReply, ResolvedReply, ShutReply, Submission,
     SubmitReply,

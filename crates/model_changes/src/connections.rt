@@ -6,7 +6,7 @@ ghost use Rattle.model_authority.specs.Lists.{is_nil};
 ghost use Rattle.model_authority.specs.Statuses as statuses;
 
 use crate::identity::suits;
-use model_authority::statuses::{is_draining, is_open, is_unsent_at, speaks_h2};
+use model_authority::{is_draining, is_open, is_unsent_at, speaks_h2};
 use model_values::{Connection, Exchange, OrderMark, OrderMarks, Phase};
 use net_base::{
     CallerNo, ConnNo, ExchangeNo, Identity, Listed, Moment, NoMem, Origin, PlainValue, StreamList,

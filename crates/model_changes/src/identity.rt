@@ -2,8 +2,7 @@
 ghost use Rattle.std.specs.Prelude.{◌≡◌};
 ghost use Rattle.model_changes.specs.Connections as spec;
 
-use model_authority::keys::same_proto;
-use model_authority::ways::{is_https, secured_for};
+use model_authority::{is_https, same_proto, secured_for};
 use net_base::{Identity, Via};
 use partition_keys::GroupKey;
 

@@ -4,7 +4,7 @@ use Rattle.model_settling.specs.Due.{IsNext}
 use Rattle.model_histories.specs.Histories.{MayStand}
 use Rattle.model_histories.specs.Legal.{IsPoolsEntry, IsCallsEntry}
 use Rattle.model_settling.specs.Settling.{IsSettled}
-use Rattle.model_settling.specs.declared.due.Due.{Due}
+use Rattle.model_settling.specs.declared.kinds.Due.{Due}
 use Rattle.model_values.specs.declared.entry.Entry.{Entry}
 use Rattle.model_values.specs.declared.state.AbstractPool.{AbstractPool}
 

@@ -13,11 +13,9 @@ use crate::replies::{
     has_one_part, is_cancel_reply, is_change_reply, is_preconnect_reply, is_resolved_reply,
     is_shut_reply, is_submit_reply, is_workers_entry, may_close, may_report, may_take,
 };
-use model_authority::lists::numbered;
-use model_authority::statuses::{is_busy, is_wanted};
-use model_settling::due::Due;
-use model_settling::settle::{is_act, next_due};
-use model_steps::calls::{group_parts_for, note};
+use model_authority::{is_busy, is_wanted, numbered};
+use model_settling::{Due, is_act, next_due};
+use model_steps::{group_parts_for, note};
 use model_values::{
     AbstractPool, Act, ChangeReply, Entry, OrderMarks, PreconnectReply, Report, ResolvedReply,
     Submission, SubmitReply,

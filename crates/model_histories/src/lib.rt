@@ -3,10 +3,16 @@
 //! history. `specs/` has the definitions.
 #![tactic(auto)]
 
-pub mod laws;
-pub mod legal;
+mod laws;
+mod legal;
 mod port;
-pub mod replies;
-pub mod reply_laws;
+mod replies;
+mod reply_laws;
 
+pub use laws::{
+    ends_as_state_says, holds_as_state_says, reports_as_state_says, works_as_state_says,
+};
+pub use legal::{is_late, may_end, may_tell, may_work, next_dial, noted};
 pub use port::PoolPort;
+pub use replies::{is_bad_probe, own_exchange};
+pub use reply_laws::replies_are_computed;

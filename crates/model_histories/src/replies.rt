@@ -5,11 +5,8 @@ ghost use Rattle.std.specs.Str.{bytes_eq};
 ghost use Rattle.model_histories.specs.Legal as legal;
 ghost use Rattle.model_histories.specs.Replies as spec;
 
-use model_authority::keys::GroupParts;
-use model_authority::lists::numbered;
-use model_authority::statuses::{has_ended, is_busy, is_dialing};
-use model_settling::counts::{count_in_group, count_total};
-use model_settling::room::planned;
+use model_authority::{GroupParts, has_ended, is_busy, is_dialing, numbered};
+use model_settling::{count_in_group, count_total, planned};
 use model_values::{
     AbstractPool, CancelReply, ChangeReply, Connection, Exchange, OrderMarks, PreconnectReply,
     Report, ResolvedReply, ShutReply, Submission, SubmitReply,

@@ -13,8 +13,8 @@ use Rattle.model_settling.proofs.LeastLemmas.{least_none}
 use Rattle.model_settling.specs.Due.{least_of, or_else, expire_due, lapse_due, assign_due, want_best, want_due, evict_due, due_of, act_of}
 use Rattle.model_settling.specs.Room.{is_eligible, has_room}
 use Rattle.model_settling.specs.Settling.{can_start, can_open, urgency_of, IsSettled}
-use Rattle.model_settling.specs.declared.due.Best.{Best}
-use Rattle.model_settling.specs.declared.due.Due.{Due}
+use Rattle.model_settling.specs.declared.kinds.Best.{Best}
+use Rattle.model_settling.specs.declared.kinds.Due.{Due}
 use Rattle.model_steps.specs.After.{after}
 use Rattle.model_values.specs.declared.entry.Act.{Act}
 use Rattle.model_values.specs.declared.entry.Entry.{Entry}

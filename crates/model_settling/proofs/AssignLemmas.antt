@@ -17,9 +17,9 @@ use Rattle.model_settling.specs.Room.{is_eligible}
 use Rattle.model_settling.specs.Settling.{can_use, can_start, urgency_of, IsAssign}
 use Rattle.model_authority.specs.Statuses.{is_open}
 use Rattle.model_authority.specs.Ways.{is_usable, has_capacity, has_way, way_of}
-use Rattle.model_settling.specs.declared.due.Best.{Best}
-use Rattle.model_settling.specs.declared.due.Due.{Due}
-use Rattle.model_settling.specs.declared.due.Due.TheVariants as due
+use Rattle.model_settling.specs.declared.kinds.Best.{Best}
+use Rattle.model_settling.specs.declared.kinds.Due.{Due}
+use Rattle.model_settling.specs.declared.kinds.Due.TheVariants as due
 use Rattle.model_values.specs.declared.entry.Way.{Way}
 use Rattle.model_values.specs.declared.state.AbstractPool.{AbstractPool}
 use Rattle.model_values.specs.declared.state.Connection.{Connection}

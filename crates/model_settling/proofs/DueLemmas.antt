@@ -12,8 +12,8 @@ use Rattle.model_settling.specs.Due.{or_else, expire_due, lapse_due, assign_due,
 use Rattle.model_authority.specs.Lists.{numbered}
 use Rattle.model_settling.specs.Settling.{IsExpire, IsLapse, IsAssign, IsWant, IsEvict, IsDue, IsSettled, IsLate}
 use Rattle.model_authority.specs.Ways.{target_of}
-use Rattle.model_settling.specs.declared.due.Due.{Due}
-use Rattle.model_settling.specs.declared.due.Due.TheVariants as due
+use Rattle.model_settling.specs.declared.kinds.Due.{Due}
+use Rattle.model_settling.specs.declared.kinds.Due.TheVariants as due
 use Rattle.model_values.specs.declared.entry.Act.{Act}
 use Rattle.model_values.specs.declared.entry.Act.TheVariants.{Submit, Cancel, Reprioritise, Preconnect, Resolved, Network, Tick, Shutdown, Dial, Orders, Reported, Closed, Expire, Lapse, Assign, Want, Evict}
 use Rattle.model_values.specs.declared.entry.Way.{Way}

@@ -13,9 +13,9 @@ use Rattle.model_authority.specs.Lists.{numbered}
 use Rattle.model_settling.specs.Room.{is_total_full}
 use Rattle.model_settling.specs.Settling.{is_held_back, is_idle, idle_since_of, IsEvict}
 use Rattle.model_authority.specs.Statuses.{is_closing}
-use Rattle.model_settling.specs.declared.due.Best.{Best}
-use Rattle.model_settling.specs.declared.due.Due.{Due}
-use Rattle.model_settling.specs.declared.due.Due.TheVariants as due
+use Rattle.model_settling.specs.declared.kinds.Best.{Best}
+use Rattle.model_settling.specs.declared.kinds.Due.{Due}
+use Rattle.model_settling.specs.declared.kinds.Due.TheVariants as due
 use Rattle.model_values.specs.declared.state.AbstractPool.{AbstractPool}
 use Rattle.model_values.specs.declared.state.Exchange.{Exchange}
 

@@ -11,9 +11,9 @@ use Rattle.model_settling.specs.Due.{lowest_of, least_of, expire_of, lapse_of, w
 use Rattle.model_authority.specs.Lists.{numbered}
 use Rattle.model_settling.specs.Settling.{has_expired, has_lapsed, can_open, urgency_of, IsExpire, IsLapse, IsAssign, IsWant}
 use Rattle.model_authority.specs.Ways.{target_of}
-use Rattle.model_settling.specs.declared.due.Best.{Best}
-use Rattle.model_settling.specs.declared.due.Due.{Due}
-use Rattle.model_settling.specs.declared.due.Due.TheVariants as due
+use Rattle.model_settling.specs.declared.kinds.Best.{Best}
+use Rattle.model_settling.specs.declared.kinds.Due.{Due}
+use Rattle.model_settling.specs.declared.kinds.Due.TheVariants as due
 use Rattle.model_values.specs.declared.entry.Way.{Way}
 use Rattle.model_values.specs.declared.state.AbstractPool.{AbstractPool}
 use Rattle.model_values.specs.declared.state.Exchange.{Exchange}

@@ -5,7 +5,7 @@ use Rattle.std.proofs.lemmas.Bool.{cases_order, ltb-true, ltb-false}
 use Rattle.model_authority.proofs.NumberLemmas.{option_cases, numbered_at, place_of, passing, passing_at, passes, each_item}
 use Rattle.model_settling.specs.Due.{is_better, least_from, least_of}
 use Rattle.model_authority.specs.Lists.{numbered, Passes, GoesBefore, IsLeast}
-use Rattle.model_settling.specs.declared.due.Best.{Best}
+use Rattle.model_settling.specs.declared.kinds.Best.{Best}
 
 -- where the items are numbered from first, the best is of the item at this place
 pub record IsOfItem {A : Type 0} (test : ℕ → A → Bool) (key : A → ℕ) (first : ℕ) (xs : List A) (b : Best) : Type 0 where

@@ -8,9 +8,9 @@ use Rattle.model_settling.specs.Room.{is_total_full}
 use Rattle.model_settling.specs.Settling.{has_expired, has_lapsed, can_use, can_start, can_open, is_held_back, is_idle, urgency_of, idle_since_of, IsDue, IsLate}
 use Rattle.model_authority.specs.Statuses.{is_closing}
 use Rattle.model_authority.specs.Ways.{target_of, way_of}
-use Rattle.model_settling.specs.declared.due.Best.{Best}
-use Rattle.model_settling.specs.declared.due.Due.{Due}
-use Rattle.model_settling.specs.declared.due.Due.TheVariants as due
+use Rattle.model_settling.specs.declared.kinds.Best.{Best}
+use Rattle.model_settling.specs.declared.kinds.Due.{Due}
+use Rattle.model_settling.specs.declared.kinds.Due.TheVariants as due
 use Rattle.model_values.specs.declared.entry.Act.{Act}
 use Rattle.model_values.specs.declared.entry.Act.TheVariants.{Expire, Lapse, Assign, Want, Evict}
 use Rattle.model_values.specs.declared.entry.Way.{Way}

@@ -3,8 +3,7 @@ ghost use Rattle.std.specs.Prelude.{◌≡◌, count_by};
 ghost use Rattle.partition_keys.specs.Equality as equality;
 ghost use Rattle.model_settling.specs.Counts as spec;
 
-use model_authority::keys::{GroupParts, parts_of_group, same_group};
-use model_authority::statuses::{is_gone, is_leased, is_opening};
+use model_authority::{GroupParts, is_gone, is_leased, is_opening, parts_of_group, same_group};
 use model_values::{AbstractPool, Connection, Exchange};
 
 /// Whether the connection has this group.

@@ -3,8 +3,13 @@
 //! the two are one. `next_due` takes no memory. Limits, ranks and the order of the kinds are this project's own.
 #![tactic(auto)]
 
-pub mod counts;
-pub mod due;
-pub mod room;
-pub mod settle;
-pub mod settling;
+mod counts;
+mod kinds;
+mod room;
+mod settle;
+mod settling;
+
+pub use counts::{count_in_group, count_total};
+pub use kinds::Due;
+pub use room::planned;
+pub use settle::{due_act, is_act, is_settled, next_due};

@@ -8,9 +8,10 @@ ghost use Rattle.model_authority.specs.Ways as ways;
 use crate::counts::{
     background_leases, count_in_group, count_total, in_group, is_opening_in, openings_of,
 };
-use model_authority::keys::{GroupParts, parts_of_group, same_group};
-use model_authority::statuses::{has_ended, is_h2, is_open, is_waiting, speaks_h2};
-use model_authority::ways::group_parts;
+use model_authority::{
+    GroupParts, group_parts, has_ended, is_h2, is_open, is_waiting, parts_of_group, same_group,
+    speaks_h2,
+};
 use model_values::{AbstractPool, Connection, Exchange, ProtoRow};
 use net_base::{ExchangeNo, Via};
 

@@ -7,12 +7,10 @@ ghost use Rattle.model_settling.specs.Settling as settling;
 ghost use Rattle.model_authority.specs.Statuses as statuses;
 ghost use Rattle.model_authority.specs.Ways as ways;
 
-use crate::due::{Best, Due};
+use crate::kinds::{Best, Due};
 use crate::room::is_total_full;
 use crate::settling::{can_open, can_start, has_expired, has_lapsed, is_held_back, is_idle};
-use model_authority::lists::numbered;
-use model_authority::statuses::is_closing;
-use model_authority::ways::{has_target, is_usable, target, way};
+use model_authority::{has_target, is_closing, is_usable, numbered, target, way};
 use model_values::{
     AbstractPool, Act, Connection, Exchange, is_assign, is_evict, is_expire, is_lapse,
 };

@@ -6,9 +6,7 @@ ghost use Rattle.model_settling.specs.Settling as spec;
 ghost use Rattle.model_authority.specs.Ways as ways;
 
 use crate::room::{eligible, has_room, has_room_but_total};
-use model_authority::lists::is_nil;
-use model_authority::statuses::{has_ended, is_h2, is_open, is_waiting};
-use model_authority::ways::{alternatives, is_usable};
+use model_authority::{alternatives, has_ended, is_h2, is_nil, is_open, is_usable, is_waiting};
 use model_values::{AbstractPool, Connection, Exchange};
 use net_base::Moment;
 use partition_keys::{Alternative, is_fresh};

@@ -10,7 +10,7 @@ use crate::calls::{
 use crate::lost::after_closed;
 use crate::pools_entries::{after_assign, after_evict, after_expire, after_lapse, after_want};
 use crate::workers_entries::{after_report, note_sent};
-use model_authority::keys::build_group;
+use model_authority::build_group;
 use model_values::{AbstractPool, Act, OrderMarks, PreconnectReply};
 use net_base::{CallerNo, ConnNo, NoMem, Origin};
 use partition_keys::PartitionKey;

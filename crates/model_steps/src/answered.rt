@@ -7,8 +7,7 @@ ghost use Rattle.model_authority.specs.Statuses as statuses;
 ghost use Rattle.model_steps.specs.Answered as spec;
 
 use crate::exchanges::wait_again;
-use model_authority::lists::{numbered, numbered_mut};
-use model_authority::statuses::is_at;
+use model_authority::{is_at, numbered, numbered_mut};
 use model_changes::{
     after_answer, dropped_alternatives, excluding, proven_alternatives, updated_alternatives,
 };

@@ -5,9 +5,9 @@ ghost use Rattle.model_changes.specs.Connections as connections;
 ghost use Rattle.model_authority.specs.Ways as ways;
 
 use crate::exchanges::{close_exchanges, end, hand_all, new_exchange, set_urgency};
-use model_authority::keys::{GroupParts, build_group};
-use model_authority::lists::{numbered, numbered_mut};
-use model_authority::ways::{is_host_row_of, target_parts_for};
+use model_authority::{
+    GroupParts, build_group, is_host_row_of, numbered, numbered_mut, target_parts_for,
+};
 use model_changes::{
     dialing_by, new_connection, persistent_alternatives, shut_all, with_taken, without_exchange,
     without_start,

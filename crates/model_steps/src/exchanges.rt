@@ -6,8 +6,7 @@ ghost use Rattle.model_steps.specs.Exchanges as spec;
 ghost use Rattle.model_authority.specs.Lists.{edit};
 ghost use Rattle.model_values.specs.declared.state.Status.TheVariants.{Leased};
 
-use model_authority::lists::numbered_mut;
-use model_authority::statuses::is_waiting;
+use model_authority::{is_waiting, numbered_mut};
 use model_changes::is_start_of;
 use model_values::{Exchange, OrderMark, Outcome, Status, Submission, Way};
 use net_base::{CallerNo, ConnNo, StreamNo};

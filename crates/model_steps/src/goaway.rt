@@ -5,7 +5,7 @@ ghost use Rattle.model_changes.specs.Connections as connections;
 ghost use Rattle.model_steps.specs.Goaway as spec;
 
 use crate::exchanges::wait_again;
-use model_authority::lists::numbered_mut;
+use model_authority::numbered_mut;
 use model_changes::going_away;
 use model_values::{AbstractPool, Connection, Exchange, Status};
 use net_base::{ConnNo, Moment, NoMem, StreamNo};

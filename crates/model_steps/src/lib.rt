@@ -3,13 +3,16 @@
 //! worker reports (an answer, a GOAWAY, the end of a stream or of the connection), and `after_act` computes it.
 #![tactic(auto)]
 
-pub mod after;
-pub mod answered;
-pub mod calls;
-pub mod exchanges;
-pub mod goaway;
-pub mod lost;
-pub mod opened;
-pub mod pools_entries;
-pub mod stream_ends;
-pub mod workers_entries;
+mod after;
+mod answered;
+mod calls;
+mod exchanges;
+mod goaway;
+mod lost;
+mod opened;
+mod pools_entries;
+mod stream_ends;
+mod workers_entries;
+
+pub use after::after_act;
+pub use calls::{group_parts_for, note};

@@ -7,8 +7,7 @@ ghost use Rattle.model_steps.specs.Lost as spec;
 
 use crate::exchanges::wait_again;
 use crate::opened::after_useless;
-use model_authority::lists::{numbered, numbered_mut};
-use model_authority::statuses::is_on;
+use model_authority::{is_on, numbered, numbered_mut};
 use model_changes::gone;
 use model_values::{AbstractPool, Exchange, Outcome, Status};
 use net_base::{ConnNo, EndCause, NoMem, PlainValue, StreamNo, is_idempotent};

@@ -4,8 +4,7 @@ ghost use Rattle.partition_keys.specs.Equality.{same_group as equal_groups};
 ghost use Rattle.model_steps.specs.Opened as spec;
 
 use crate::exchanges::end_numbered_if_waiting;
-use model_authority::keys::{parts_of_group, same_group};
-use model_authority::lists::{numbered, numbered_mut};
+use model_authority::{numbered, numbered_mut, parts_of_group, same_group};
 use model_changes::{after_opened, broken_alternatives, suits};
 use model_values::{AbstractPool, Exchange, Outcome, ProtoRow, Rows};
 use net_base::{ConnNo, ExchangeNo, Identity, NoMem, PlainValue, Proto, Via};

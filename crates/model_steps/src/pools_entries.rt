@@ -6,7 +6,7 @@ ghost use Rattle.model_authority.specs.Lists.{edit};
 
 use crate::calls::release;
 use crate::exchanges::{end, lease, time_out};
-use model_authority::lists::{numbered, numbered_mut};
+use model_authority::{numbered, numbered_mut};
 use model_changes::{closing, new_connection, with_start};
 use model_values::{AbstractPool, Connection, Exchange, Outcome, Way};
 use net_base::{ConnNo, ExchangeNo, Moment, NoMem, PlainValue, StreamNo, Target};

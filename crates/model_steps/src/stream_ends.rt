@@ -3,8 +3,7 @@ ghost use Rattle.std.specs.Prelude.{◌≡◌, OnOk, map};
 ghost use Rattle.model_steps.specs.StreamEnds as spec;
 
 use crate::exchanges::wait_again;
-use model_authority::lists::numbered_mut;
-use model_authority::statuses::is_at;
+use model_authority::{is_at, numbered_mut};
 use model_changes::{after_large_answer, without_stream};
 use model_values::{AbstractPool, Exchange, Outcome, Status};
 use net_base::{ConnNo, NoMem, PlainValue, StreamNo};

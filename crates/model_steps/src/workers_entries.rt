@@ -7,7 +7,7 @@ use crate::answered::after_answered;
 use crate::goaway::after_goaway;
 use crate::opened::after_open;
 use crate::stream_ends::{after_refused, after_reset, after_stream_closed, after_too_large};
-use model_authority::lists::{numbered, numbered_mut};
+use model_authority::{numbered, numbered_mut};
 use model_changes::{updated_alternatives, with_limit, with_sent};
 use model_values::{AbstractPool, Report};
 use net_base::{ConnNo, NoMem, Origin};

@@ -5,9 +5,9 @@ ghost use Rattle.model_steps.specs.After as after;
 ghost use Rattle.model_histories.specs.Histories as spec;
 ghost use Rattle.model_settling.specs.Settling.{IsSettled};
 
-use model_histories::legal::noted;
-use model_settling::settle::is_settled;
-use model_steps::after::after_act;
+use model_histories::noted;
+use model_settling::is_settled;
+use model_steps::after_act;
 use model_values::{AbstractPool, Config, Entry, History, Rows};
 use net_base::{Moment, NoMem};
 use std::alloc::Global;

@@ -11,7 +11,7 @@ mod state;
 
 pub use judge::{first_bad, has_room_for_more, open_pool};
 pub use model_histories::PoolPort;
-pub use model_settling::due::Due;
+pub use model_settling::Due;
 pub use model_values::{
     AbstractPool, Act, AltRow, CancelReply, ChangeReply, Config, ConnTicket, Connection, Entry,
     Exchange, History, HostRow, Look, Order, OrderMark, OrderMarks, Orders, OrdersReply, Origins,

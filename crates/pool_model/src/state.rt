@@ -4,8 +4,7 @@ ghost use Rattle.model_histories.specs.Histories.{run};
 ghost use Rattle.model_steps.specs.After as after;
 
 use crate::judge::{has_room_for_more, open_pool};
-use model_steps::after::after_act;
-use model_steps::calls::note;
+use model_steps::{after_act, note};
 use model_values::{AbstractPool, Config, Entry};
 use net_base::NoMem;
 use std::alloc::Global;

@@ -2,7 +2,7 @@ use Rattle.std.proofs.Common.{Option, MatchOption, sym, subst}
 use Rattle.model_settling.proofs.DueLemmas.{due_next}
 use Rattle.model_settling.specs.Due.{IsNext}
 use Rattle.model_settling.specs.Settling.{IsSettled}
-use Rattle.model_settling.specs.declared.due.Due.{Due}
+use Rattle.model_settling.specs.declared.kinds.Due.{Due}
 use Rattle.model_settling.proofs.settle.next_due.Goals as goal
 
 pub returns-clause-next : goal.returns-clause-next
