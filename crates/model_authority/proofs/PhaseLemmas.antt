@@ -26,9 +26,9 @@ each_phase f h p =
     at a b c d e g Closing = e
     at a b c d e g Gone = g
 
-by_or : (a b : Bool) → (not a || b) ≡ true → a ≡ true → b ≡ true
-by_or true b h e = h
-by_or false b h e = absurd cc
+pub implied : (a b : Bool) → (not a || b) ≡ true → a ≡ true → b ≡ true
+implied true b h e = h
+implied false b h e = absurd cc
 
 by_two : (a b c : Bool) → (a || (b || c)) ≡ true → a ≡ false → b ≡ false → c ≡ true
 by_two true b c h e k = absurd cc
@@ -37,7 +37,7 @@ by_two false false c h e k = h
 
 -- what passes the first test passes the second
 pub follows : (f g : Phase → Bool) → is_each (λ p. not (f p) || g p) ≡ true → (p : Phase) → f p ≡ true → g p ≡ true
-follows f g h p e = by_or (f p) (g p) (each_phase (λ p. not (f p) || g p) h p) e
+follows f g h p e = implied (f p) (g p) (each_phase (λ p. not (f p) || g p) h p) e
 
 -- what passes the first test doesn't pass the second
 pub excludes : (f g : Phase → Bool) → is_each (λ p. not (f p) || not (g p)) ≡ true → (p : Phase) → f p ≡ true → g p ≡ false

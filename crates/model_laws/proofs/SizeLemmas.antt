@@ -9,12 +9,14 @@ use Rattle.net_base.specs.declared.numbers.CallerNo.{CallerNo}
 use Rattle.net_base.specs.declared.numbers.ConnNo.{ConnNo}
 use Rattle.net_base.specs.declared.numbers.ExchangeNo.{ExchangeNo}
 use Rattle.net_base.specs.declared.numbers.Moment.{Moment}
+use Rattle.net_base.specs.declared.numbers.StreamNo.{StreamNo}
 use Rattle.net_base.specs.declared.target.Target.{Target}
 use Rattle.net_base.specs.declared.target.Via.{Via}
 use Rattle.net_base.specs.declared.target.Via.TheVariants as via
 use Rattle.partition_keys.specs.declared.group.GroupKey.{GroupKey}
 use Rattle.model_changes.specs.Connections.{closing, without_stream, without_start, without_exchange, new_connection, dialing_by, after_opened, with_start, with_taken, with_limit, after_large_answer, going_away, gone, after_shutdown, with_sent}
 use Rattle.model_laws.proofs.RoomLemmas.{plan_within}
+use Rattle.model_histories.proofs.CauseLemmas.{by_identity, by_open, by_alt_seen, by_closed}
 use Rattle.model_histories.proofs.RunLemmas.{config-after}
 use Rattle.model_histories.specs.Histories.{opening, MayStand}
 use Rattle.model_histories.specs.Legal.{IsReply, IsLegal}
@@ -22,17 +24,19 @@ use Rattle.model_histories.specs.Replies.{IsSubmitReply, IsPreconnectReply}
 use Rattle.model_settling.specs.Counts.{openings_of}
 use Rattle.model_settling.specs.Room.{is_eligible, expects_h2, has_open_h2, has_numbers, is_total_full, has_room_in, has_room_but_total, has_room, room_left, planned}
 use Rattle.model_settling.specs.Settling.{IsDue, IsWant, can_open}
-use Rattle.model_steps.specs.After.{noted, after_submit, released_lease, released_by, released, after_cancel, after_reprioritise, after_preconnect, after_resolved, after_network, after_shut, after_dial, after_orders, connection_after_answer, after_leases, after_alt_seen, after_report, after_expire, after_lapse, after_assign, wanted_connection, after_want_of, after_want, after_evict, sent_noted, after_act, after}
-use Rattle.model_steps.specs.Opened.{ended_for, after_useless, is_useless, after_identity_of, after_open_of, after_open}
-use Rattle.model_steps.specs.Answered.{after_answered}
-use Rattle.model_steps.specs.Lost.{is_dial_failed, after_failed_dial, after_closed}
-use Rattle.model_steps.specs.Exchanges.{new_exchange, with_status, ended_by, with_urgency, timed_out, ended_unless, ended_if_waiting, lease_after, handed_by}
+use Rattle.model_steps.specs.Answered.{answered, lease_at, answered_connection, after_answered}
+use Rattle.model_steps.specs.Goaway.{left_out}
+use Rattle.model_steps.specs.Lost.{lost, after_lost, after_closed}
+use Rattle.model_steps.specs.Opened.{ended_for, after_useless}
+use Rattle.model_steps.specs.StreamEnds.{refused, ended_at}
+use Rattle.model_steps.specs.After.{noted, after_submit, released_lease, released_by, released, after_cancel, after_reprioritise, after_preconnect, after_resolved, after_network, after_shut, after_dial, after_orders, after_report, after_expire, after_lapse, after_assign, wanted_connection, after_want_of, after_want, after_evict, sent_noted, after_act, after}
+use Rattle.model_steps.specs.Exchanges.{new_exchange, with_status, ended_by, with_urgency, timed_out, ended_unless, ended_if_waiting, handed_by}
 use Rattle.model_authority.proofs.NumberLemmas.{passing}
 use Rattle.model_authority.specs.Lists.{numbered, with_item, edit}
 use Rattle.model_authority.specs.Ways.{group_of, group_for}
 use Rattle.model_values.specs.declared.config.Config.{Config}
 use Rattle.model_values.specs.declared.entry.Act.{Act}
-use Rattle.model_values.specs.declared.entry.Act.TheVariants.{Submit, Cancel, Reprioritise, Preconnect, Resolved, Network, Tick, Shutdown, Dial, Orders, Reported, Closed, Expire, Lapse, Assign, Want, Evict}
+use Rattle.model_values.specs.declared.entry.Act.TheVariants.{Submit, Cancel, Reprioritise, Preconnect, Resolved, Shutdown, Dial, Orders, Reported, Closed, Expire, Lapse, Assign, Want, Evict}
 use Rattle.model_values.specs.declared.entry.Entry.{Entry}
 use Rattle.model_values.specs.declared.order.OrderMark.{OrderMark}
 use Rattle.model_values.specs.declared.outcome.Outcome.{Outcome}
@@ -99,55 +103,36 @@ nothing_trans s t u first second = (second.0 ∙ first.0, second.1 ∙ first.1)
 nothing_sent : (s : AbstractPool) (c : ConnNo) (sent : ℕ) → AddsNothing s (sent_noted s c sent)
 nothing_sent s c sent = (refl, length_edit c.0 (with_sent sent) s.connections)
 
-nothing_leases : (s : AbstractPool) (conn : ConnNo) (act : Act) (f : Connection → Connection) → AddsNothing s (after_leases s conn act f)
-nothing_leases s conn act f = (length-map s.exchanges (lease_after act), length_edit conn.0 f s.connections)
-
 nothing_useless : (s : AbstractPool) (g : GroupKey) (wanted_for : Option ExchangeNo) (how : Outcome) (v : Via) → AddsNothing s (after_useless s g wanted_for how v)
 nothing_useless s g wanted_for how via.Direct = (length_ended wanted_for how s.exchanges, refl)
 nothing_useless s g wanted_for how (via.Alternative p) = nothing s
 
-nothing_identity : (s : AbstractPool) (conn : ConnNo) (g : GroupKey) (wanted_for : Option ExchangeNo) (id : Identity) → AddsNothing s (after_identity_of s conn g wanted_for id)
-nothing_identity s conn g wanted_for id =
-    cond_both (is_useless s g id) (after_useless s g wanted_for (outcome.Identity conn) g.target.via) s (AddsNothing s)
-    (λ u. nothing_useless s g wanted_for (outcome.Identity conn) g.target.via) (λ u. nothing s)
-
-nothing_open : (s : AbstractPool) (conn : ConnNo) (id : Identity) → AddsNothing s (after_open s conn id)
-unfolding after_open
-nothing_open s conn id = by (numbered conn.0 s.connections)
-  where
-    by : (o : Option Connection) → AddsNothing s (after_open_of s conn id o)
-    by None = nothing s
-    by (Some c) = ((nothing_identity s conn c.group c.wanted_for id).0, length_edit conn.0 (after_opened (is_some s.shutdown) s.latest id) s.connections)
-
-nothing_report : (s : AbstractPool) (conn : ConnNo) (act : Act) (r : Report) → AddsNothing s (after_report s conn act r)
+nothing_report : (s : AbstractPool) (conn : ConnNo) (r : Report) → AddsNothing s (after_report s conn r)
 unfolding after_answered
-nothing_report s conn act (report.Opened id) = nothing_open s conn id
-nothing_report s conn act (report.Limit n) = (refl, length_edit conn.0 (with_limit n) s.connections)
-nothing_report s conn act (report.Answered r response keep alt proof) =
-    (length-map s.exchanges (lease_after act), length_edit conn.0 (connection_after_answer s conn r keep act) s.connections)
-nothing_report s conn act (report.Refused r) = nothing_leases s conn act (without_stream s.latest r)
-nothing_report s conn act (report.Reset r code) = nothing_leases s conn act (without_stream s.latest r)
-nothing_report s conn act (report.TooLarge r) = nothing_leases s conn act (after_large_answer s.latest r)
-nothing_report s conn act (report.StreamClosed r) = (refl, length_edit conn.0 (without_stream s.latest r) s.connections)
-nothing_report s conn act (report.Goaway last) = nothing_leases s conn act (going_away s.latest conn s.exchanges last)
-nothing_report s conn act (report.AltSeen origin alt) = by (numbered conn.0 s.connections)
-  where
-    by : (o : Option Connection) → AddsNothing s (after_alt_seen s origin alt o)
-    by None = nothing s
-    by (Some c) = nothing s
+nothing_report s conn (report.Opened id) =
+    by_open (AddsNothing s) s conn id
+    (λ c.
+    let useless = by_identity (AddsNothing s) s conn c.group c.wanted_for id (nothing_useless s c.group c.wanted_for (outcome.Identity conn) c.group.target.via) (nothing s) in
+    (useless.0, length_edit conn.0 (after_opened (is_some s.shutdown) s.latest id) s.connections))
+    (nothing s)
+nothing_report s conn (report.Limit n) = (refl, length_edit conn.0 (with_limit n) s.connections)
+nothing_report s conn (report.Answered r response keep alt proof) =
+    (length-map s.exchanges (answered conn r response), length_edit conn.0 (answered_connection s.latest r response keep (lease_at s conn r)) s.connections)
+nothing_report s conn (report.Refused r) = (length-map s.exchanges (refused conn r), length_edit conn.0 (without_stream s.latest r) s.connections)
+nothing_report s conn (report.Reset r code) = (length-map s.exchanges (ended_at conn r (outcome.Reset code)), length_edit conn.0 (without_stream s.latest r) s.connections)
+nothing_report s conn (report.TooLarge r) = (length-map s.exchanges (ended_at conn r outcome.TooLarge), length_edit conn.0 (after_large_answer s.latest r) s.connections)
+nothing_report s conn (report.StreamClosed r) = (refl, length_edit conn.0 (without_stream s.latest r) s.connections)
+nothing_report s conn (report.Goaway last) = (length-map s.exchanges (left_out conn last), length_edit conn.0 (going_away s.latest conn s.exchanges last) s.connections)
+nothing_report s conn (report.AltSeen origin alt) = by_alt_seen (AddsNothing s) s conn origin alt (λ c. nothing s) (nothing s)
 
-nothing_closed : (s : AbstractPool) (conn : ConnNo) (end : EndCause) (act : Act) → AddsNothing s (after_closed s conn end act)
-unfolding after_closed
-nothing_closed s conn end act =
-    cond_both (is_dial_failed end) (after_failed_dial (after_leases s conn act gone) conn (numbered conn.0 s.connections)) (after_leases s conn act gone) (AddsNothing s)
-    (λ f. by (numbered conn.0 s.connections)) (λ f. nothing_leases s conn act gone)
-  where
-    by : (o : Option Connection) → AddsNothing s (after_failed_dial (after_leases s conn act gone) conn o)
-    by None = nothing_leases s conn act gone
-    by (Some c) =
-        let left : AbstractPool = after_leases s conn act gone in
-        nothing_trans s left (after_useless left c.group c.wanted_for (outcome.DialFault conn) c.group.target.via) (nothing_leases s conn act gone)
-        (nothing_useless left c.group c.wanted_for (outcome.DialFault conn) c.group.target.via)
+nothing_closed : (s : AbstractPool) (conn : ConnNo) (end : EndCause) (heard : List StreamNo) → AddsNothing s (after_closed s conn end heard)
+nothing_closed s conn end heard =
+    let left : AbstractPool = after_lost s conn end heard in
+    let ended : AddsNothing s left = (length-map s.exchanges (lost conn end heard), length_edit conn.0 gone s.connections) in
+    by_closed (AddsNothing s) s conn end heard
+    (λ c.
+    nothing_trans s left (after_useless left c.group c.wanted_for (outcome.DialFault conn) c.group.target.via) ended
+    (nothing_useless left c.group c.wanted_for (outcome.DialFault conn) c.group.target.via)) ended
 
 nothing_orders : (s : AbstractPool) (c : ConnNo) (orders : List OrderMark) → AddsNothing s (after_orders s c orders)
 unfolding after_orders
@@ -218,18 +203,6 @@ enough_want s m e c t due has =
 -- what the pool does by itself
 enough_due : (s : AbstractPool) (m : Moment) (who : CallerNo) (act : Act) → IsDue s act → HasNumbers s → AreEnough s (after_act (noted s m) who act)
 unfolding after_expire after_lapse after_assign after_evict noted
-enough_due s m who (Submit ask reply) due has = absurd due
-enough_due s m who (Cancel e reply) due has = absurd due
-enough_due s m who (Reprioritise e urgency reply) due has = absurd due
-enough_due s m who (Preconnect key credentials origin count reply) due has = absurd due
-enough_due s m who (Resolved key host addresses reply) due has = absurd due
-enough_due s m who Network due has = absurd due
-enough_due s m who Tick due has = absurd due
-enough_due s m who (Shutdown reply) due has = absurd due
-enough_due s m who (Dial c target) due has = absurd due
-enough_due s m who (Orders c sent orders) due has = absurd due
-enough_due s m who (Reported c sent report) due has = absurd due
-enough_due s m who (Closed c sent cause heard) due has = absurd due
 enough_due s m who (Expire e) due has = enough s (after_expire (noted s m) e) (length_edit e.0 timed_out s.exchanges, length_released (noted s m) e) has
 enough_due s m who (Lapse e) due has = enough s (after_lapse (noted s m) e) (length_edit e.0 (ended_by outcome.NoAlternative) s.exchanges, refl) has
 enough_due s m who (Assign e c r way) due has =
@@ -237,25 +210,17 @@ enough_due s m who (Assign e c r way) due has =
     (length_edit e.0 (with_status (Leased c r way false)) s.exchanges, length_edit c.0 (with_start s.config.last_stream e r) s.connections) has
 enough_due s m who (Want e c t) due has = enough_want s m e c t due has
 enough_due s m who (Evict c) due has = enough s (after_evict (noted s m) c) (refl, length_edit c.0 closing s.connections) has
+enough_due s m who _ due has = absurd due
 
 -- what a call leaves
 enough_reply : (s : AbstractPool) (who : CallerNo) (act : Act) → IsReply s who act → HasNumbers s → AreEnough s (after_act s who act)
 unfolding after_cancel after_reprioritise after_resolved after_network after_shut after_dial
 enough_reply s who (Submit ask r) reply has = enough_submit s who ask r reply.2 has
-enough_reply s who (Cancel e cancel.Unknown) reply has = has
-enough_reply s who (Cancel e cancel.Ended) reply has = has
 enough_reply s who (Cancel e cancel.Cancelled) reply has = enough s (after_cancel s e cancel.Cancelled) (length_edit e.0 (ended_by outcome.Cancelled) s.exchanges, length_released s e) has
-enough_reply s who (Reprioritise e urgency change.Unknown) reply has = has
-enough_reply s who (Reprioritise e urgency change.Ended) reply has = has
 enough_reply s who (Reprioritise e urgency change.Changed) reply has =
     enough s (after_reprioritise s e urgency change.Changed) (length_edit e.0 (with_urgency urgency) s.exchanges, refl) has
 enough_reply s who (Preconnect key credentials origin count r) reply has = enough_preconnect s (group_for s key credentials origin) count r reply.2 has
-enough_reply s who (Resolved key host addresses (resolved.Closed place)) reply has = has
-enough_reply s who (Resolved key host addresses (resolved.TooMany n)) reply has = has
 enough_reply s who (Resolved key host addresses resolved.Noted) reply has = has
-enough_reply s who Network reply has = has
-enough_reply s who Tick reply has = has
-enough_reply s who (Shutdown (shut.Closed place)) reply has = has
 enough_reply s who (Shutdown shut.Noted) reply has =
     enough s (after_shut s shut.Noted) (length-map s.exchanges (ended_unless outcome.PoolClosed), length-map s.connections after_shutdown) has
 enough_reply s who (Dial c target) reply has = enough s (after_dial s who c) (refl, length_edit c.0 (dialing_by who) s.connections) has
@@ -264,17 +229,18 @@ enough_reply s who (Orders c sent orders) reply has =
     enough s (after_orders t c orders) (nothing_trans s t (after_orders t c orders) (nothing_sent s c sent) (nothing_orders t c orders)) has
 enough_reply s who (Reported c sent r) reply has =
     let t : AbstractPool = sent_noted s c sent in
-    let u : AbstractPool = after_report t c (Reported c sent r) r in
-    enough s u (nothing_trans s t u (nothing_sent s c sent) (nothing_report t c (Reported c sent r) r)) has
+    let u : AbstractPool = after_report t c r in
+    enough s u (nothing_trans s t u (nothing_sent s c sent) (nothing_report t c r)) has
 enough_reply s who (Closed c sent end heard) reply has =
     let t : AbstractPool = sent_noted s c sent in
-    let u : AbstractPool = after_closed t c end (Closed c sent end heard) in
-    enough s u (nothing_trans s t u (nothing_sent s c sent) (nothing_closed t c end (Closed c sent end heard))) has
+    let u : AbstractPool = after_closed t c end heard in
+    enough s u (nothing_trans s t u (nothing_sent s c sent) (nothing_closed t c end heard)) has
 enough_reply s who (Expire e) reply has = absurd reply
 enough_reply s who (Lapse e) reply has = absurd reply
 enough_reply s who (Assign e c r way) reply has = absurd reply
 enough_reply s who (Want e c t) reply has = absurd reply
 enough_reply s who (Evict c) reply has = absurd reply
+enough_reply s who _ reply has = has
 
 enough_legal : (s : AbstractPool) (e : Entry) → IsLegal s e → HasNumbers s → AreEnough s (after s e)
 unfolding after noted
