@@ -1,10 +1,9 @@
 -- A lease whose start was handed is on a connection that was opened.
 use Rattle.std.proofs.Common.{◌≡◌, ℕ, List, [], ◌∷◌, ◌++◌, Option, Some, None, true, false, sym, subst, map}
-use Rattle.std.specs.Prelude.{◌+◌, ◌&&◌, ◌==◌}
+use Rattle.std.specs.Prelude.{◌&&◌, ◌==◌}
 use Rattle.std.specs.List.{list_any}
 use Rattle.std.proofs.lemmas.Bool.{cond_both, and_parts, eqb-true}
 use Rattle.net_base.specs.declared.end_cause.EndCause.{EndCause}
-use Rattle.net_base.specs.declared.identity.Identity.{Identity}
 use Rattle.net_base.specs.declared.numbers.CallerNo.{CallerNo}
 use Rattle.net_base.specs.declared.numbers.ConnNo.{ConnNo}
 use Rattle.net_base.specs.declared.numbers.ExchangeNo.{ExchangeNo}

@@ -19,8 +19,7 @@ use Rattle.model_steps.specs.Lost.{after_closed}
 use Rattle.model_steps.specs.Opened.{after_open}
 use Rattle.model_steps.specs.StreamEnds.{after_refused, after_reset, after_too_large, after_stream_closed}
 use Rattle.model_authority.specs.Lists.{numbered, edit}
-use Rattle.model_authority.specs.Ways.{group_for}
-use Rattle.model_authority.specs.Ways.{is_host_row_of}
+use Rattle.model_authority.specs.Ways.{group_for, is_host_row_of}
 use Rattle.model_values.specs.declared.entry.Act.{Act}
 use Rattle.model_values.specs.declared.entry.Act.TheVariants.{Submit, Cancel, Reprioritise, Preconnect, Resolved, Network, Tick, Shutdown, Dial, Orders, Reported, Closed, Expire, Lapse, Assign, Want, Evict}
 use Rattle.model_values.specs.declared.entry.Entry.{Entry}
