@@ -2,7 +2,7 @@
 use Rattle.std.proofs.Common.{◌≡◌, ◌<◌, ◌≤◌, ℕ, Bool, true, false, cond, refl, ap, sym, ◌∙◌, arith, ◌==◌}
 use Rattle.std.specs.Prelude.{◌&&◌, ◌||◌, not, nat_lt}
 use Rattle.std.proofs.lemmas.Bool.{and_parts, ltb-true, not-true}
-use Rattle.model_authority.specs.Statuses.{stage_of, is_closing, is_gone}
+use Rattle.model_authority.specs.Statuses.{stage_of}
 use Rattle.model_values.specs.declared.state.Phase.{Phase}
 use Rattle.model_values.specs.declared.state.Phase.TheVariants.{Wanted, Dialing, Open, Draining, Closing, Gone}
 
@@ -49,11 +49,6 @@ or_else f g k h p e d = by_two (f p) (g p) (k p) (each_phase (λ p. f p || (g p 
 
 pub stage_most : (p : Phase) → stage_of p ≤ 5
 stage_most p = let below : stage_of p < 6 = ltb-true (stage_of p) 6 (each_phase (λ q. nat_lt (stage_of q) 6) refl p) in omega arith
-
-pub stage_before_closing : (p : Phase) → (is_closing p || is_gone p) ≡ false → stage_of p ≤ 4
-stage_before_closing p h =
-    let below : stage_of p < 5 = ltb-true (stage_of p) 5 (or_else (λ q. is_closing q || is_gone q) (λ q. false) (λ q. nat_lt (stage_of q) 5) refl p h refl) in
-    omega arith
 
 phase_at : ℕ → Phase
 phase_at n = cond (n == 0) Wanted (cond (n == 1) Dialing (cond (n == 2) Open (cond (n == 3) Draining (cond (n == 4) Closing Gone))))

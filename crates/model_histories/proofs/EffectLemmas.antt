@@ -94,9 +94,6 @@ fewer_streams test rs = omega (arith, length-filter test rs, count_by-le-length 
 abbrev pub goes_on : Phase → Phase → Bool
 goes_on p q = stage_of p == stage_of q || (is_open p && is_draining q) || (not (is_closing p || is_gone p) && is_closing q) || (is_wanted p && is_gone q)
 
-each_pair : (f : Phase → Phase → Bool) → is_each (λ p. is_each (f p)) ≡ true → (p q : Phase) → f p q ≡ true
-each_pair f h p q = each_phase (f p) (each_phase (λ r. is_each (f r)) h p) q
-
 -- what follows at each two phases of going on, follows of going on
 pub going_on : (f : Phase → Phase → Bool) → is_each (λ p. is_each (λ q. not (goes_on p q) || f p q)) ≡ true → (p q : Phase) → goes_on p q ≡ true → f p q ≡ true
 going_on f h p q goes = follows (goes_on p) (f p) (each_phase (λ r. is_each (λ t. not (goes_on r t) || f r t)) h p) q goes
@@ -135,7 +132,7 @@ pub record Leaves (x y : Connection) : Type 0 where
   pub ordered : OrdersNoMore x.orders y.orders
   pub closing : (is_closing x.phase ≡ true → streams_started x.orders ≡ []) → is_closing y.phase ≡ true → streams_started y.orders ≡ []
 
-pub leaves_fewer : (x y : Connection) → lasting y ≡ lasting x → y.phase ≡ x.phase → length y.live ≤ length x.live → OrdersNoMore x.orders y.orders → Leaves x y
+leaves_fewer : (x y : Connection) → lasting y ≡ lasting x → y.phase ≡ x.phase → length y.live ≤ length x.live → OrdersNoMore x.orders y.orders → Leaves x y
 leaves_fewer x y lasts phase live ordered = record {
   lasts = lasts;
   phase = goes_same x.phase y.phase phase;
@@ -147,7 +144,7 @@ leaves_fewer x y lasts phase live ordered = record {
 pub leaves_same : (c : Connection) → Leaves c c
 leaves_same c = leaves_fewer c c refl refl (omega arith) (λ n h. h)
 
-pub leaves_trans : (x y z : Connection) → Leaves x y → Leaves y z → Leaves x z
+leaves_trans : (x y z : Connection) → Leaves x y → Leaves y z → Leaves x z
 leaves_trans x y z k l =
     let first : length y.live ≤ length x.live = k.live in
     let second : length z.live ≤ length y.live = l.live in
@@ -184,7 +181,7 @@ leaves_run_out : (now : Moment) (c less : Connection) → Leaves c less → Leav
 unfolding idle_if_run_out
 leaves_run_out now c less k = cond_both (has_run_out c less) (idle_from now less) less (Leaves c) (λ t. leaves_trans c less (idle_from now less) k (leaves_idle now less)) (λ f. k)
 
-pub leaves_without_stream : (now : Moment) (r : StreamNo) (c : Connection) → Leaves c (without_stream now r c)
+leaves_without_stream : (now : Moment) (r : StreamNo) (c : Connection) → Leaves c (without_stream now r c)
 unfolding without_stream
 leaves_without_stream now r c =
     let less : Connection = record c { live = other_streams r c.live } in
@@ -219,13 +216,13 @@ leaves_excluding response (Some e) c =
     let without : Connection = excluding e.ask.request.origin c in
     cond_both (is_misdirected response e) without c (Leaves c) (λ t. leaves_fewer c without refl refl (omega arith) (λ n h. h)) (λ f. leaves_same c)
 
-pub leaves_answered : (now : Moment) (r : StreamNo) (response : Response) (keep : Bool) (lease : Option Exchange) (c : Connection) →
+leaves_answered : (now : Moment) (r : StreamNo) (response : Response) (keep : Bool) (lease : Option Exchange) (c : Connection) →
     Leaves c (answered_connection now r response keep lease c)
 leaves_answered now r response keep lease c =
     let first : Connection = excluding_misdirected response lease c in
     leaves_trans c first (after_answer now r keep first) (leaves_excluding response lease c) (leaves_after_answer now r keep first)
 
-pub leaves_large_answer : (now : Moment) (r : StreamNo) (c : Connection) → Leaves c (after_large_answer now r c)
+leaves_large_answer : (now : Moment) (r : StreamNo) (c : Connection) → Leaves c (after_large_answer now r c)
 unfolding after_large_answer
 leaves_large_answer now r c = leaves_kept_open (speaks_h2 c) c (without_stream now r c) (leaves_without_stream now r c)
 
@@ -241,7 +238,7 @@ leaves_draining c =
     })
     (λ f. leaves_same c)
 
-pub leaves_going_away : (now : Moment) (conn : ConnNo) (es : List Exchange) (last : StreamNo) (c : Connection) → Leaves c (going_away now conn es last c)
+leaves_going_away : (now : Moment) (conn : ConnNo) (es : List Exchange) (last : StreamNo) (c : Connection) → Leaves c (going_away now conn es last c)
 unfolding going_away
 leaves_going_away now conn es last c =
     let less : Connection = record c { live = streams_left conn es last c.live; orders = filter (λ m. not (is_start m)) c.orders } in
@@ -280,10 +277,10 @@ at_same : (o : Option Connection) → LeavesAt o o
 at_same None = tt
 at_same (Some c) = leaves_same c
 
-pub each_same : (xs : List Connection) → EachLeaves xs xs
+each_same : (xs : List Connection) → EachLeaves xs xs
 each_same xs n = at_same (numbered n xs)
 
-pub each_edit : (number : ℕ) (f : Connection → Connection) (xs : List Connection) → ((c : Connection) → Leaves c (f c)) → EachLeaves xs (edit number f xs)
+each_edit : (number : ℕ) (f : Connection → Connection) (xs : List Connection) → ((c : Connection) → Leaves c (f c)) → EachLeaves xs (edit number f xs)
 each_edit number f xs leaves n = edit_at LeavesAt number n f xs at_same (λ c is_item. leaves c)
 
 -- each connection is as it was, and further ones are wanted
@@ -318,7 +315,7 @@ pub record OneBecomes (R : Connection → Connection → Type 0) (number : ℕ) 
   pub none : numbered number xs ≡ None → numbered number ys ≡ None
   pub changed : (x : Connection) → numbered number xs ≡ Some x → (y : Connection) × (numbered number ys ≡ Some y) × R x y
 
-pub one_edit : (R : Connection → Connection → Type 0) (number : ℕ) (f : Connection → Connection) (xs : List Connection) → ((x : Connection) → R x (f x)) → OneBecomes R number xs (edit number f xs)
+one_edit : (R : Connection → Connection → Type 0) (number : ℕ) (f : Connection → Connection) (xs : List Connection) → ((x : Connection) → R x (f x)) → OneBecomes R number xs (edit number f xs)
 one_edit R number f xs r = record {
   others = λ n other. edit_other number n f xs other;
   none = λ e. ap (numbered number) (edit_none number f xs e) ∙ e;

@@ -27,7 +27,7 @@ pub record Keeps (x y : Connection) : Type 0 where
   pub busy : is_busy y.phase ≡ is_busy x.phase
   pub wanted : is_wanted y.phase ≡ true → is_wanted x.phase ≡ true
 
-pub keeps_refl : (c : Connection) → Keeps c c
+keeps_refl : (c : Connection) → Keeps c c
 keeps_refl c = record { caller = refl; sent = refl; started = refl; dialing = refl; busy = refl; wanted = λ h. h }
 
 -- one that is up stays up

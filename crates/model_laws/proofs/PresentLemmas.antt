@@ -1,5 +1,5 @@
 -- What an entry leaves of a connection: its group, and where it was gone that it is gone. So it adds to no count.
-use Rattle.std.proofs.Common.{[], ◌≡◌, ℕ, ◌≤◌, zero, suc, List, ◌∷◌, Option, Some, None, Bool, true, false, refl, sym, ap, subst, arith, cond, slice_get, IsTrue, is_some}
+use Rattle.std.proofs.Common.{length, [], ◌≡◌, ℕ, ◌≤◌, zero, suc, List, ◌∷◌, Option, Some, None, Bool, true, false, refl, sym, ap, subst, arith, cond, slice_get, IsTrue, is_some}
 use Rattle.std.specs.Prelude.{◌&&◌, not, count_by}
 use Rattle.std.proofs.lemmas.Bool.{cond_both}
 use Rattle.std.proofs.lemmas.List.Sums.{sum_by-cons}
@@ -112,6 +112,18 @@ count_places test of (x ∷ xs) (y ∷ ys) out =
     let rest : count_by test ys ≤ count_by test xs = count_places test of xs ys (λ k. out (suc k)) in
     omega (arith, one, rest, sum_by-cons (λ (c : Connection). cond (test c) 1 0) x xs, sum_by-cons (λ (c : Connection). cond (test c) 1 0) y ys)
 
+places : (xs ys : List Connection) → AddsNone xs ys → (k : ℕ) → OutAt (slice_get xs k) (slice_get ys k)
+places xs ys adds k = subst (λ o. OutAt o (slice_get ys k)) (numbered_at xs k) (subst (OutAt (numbered (suc k) xs)) (numbered_at ys k) (adds (suc k)))
+
 pub count_adds : (test : Connection → Bool) → IsOfPresent test → (xs ys : List Connection) → AddsNone xs ys → count_by test ys ≤ count_by test xs
-count_adds test of xs ys adds =
-    count_places test of xs ys (λ k. subst (λ o. OutAt o (slice_get ys k)) (numbered_at xs k) (subst (OutAt (numbered (suc k) xs)) (numbered_at ys k) (adds (suc k))))
+count_adds test of xs ys adds = count_places test of xs ys (places xs ys adds)
+
+length_places : (xs ys : List Connection) → ((k : ℕ) → OutAt (slice_get xs k) (slice_get ys k)) → length ys ≡ length xs
+length_places [] [] out = refl
+length_places [] (y ∷ ys) out = absurd (out zero)
+length_places (x ∷ xs) [] out = absurd (out zero)
+length_places (x ∷ xs) (y ∷ ys) out = ap suc (length_places xs ys (λ k. out (suc k)))
+
+-- and as many connections are there as before
+pub length_adds : (xs ys : List Connection) → AddsNone xs ys → length ys ≡ length xs
+length_adds xs ys adds = length_places xs ys (places xs ys adds)
