@@ -2,7 +2,7 @@
 use Rattle.std.proofs.Common.{◌≡◌, ◌<◌, ◌≤◌, ℕ, Bool, true, false, cond, refl, ap, sym, ◌∙◌, arith, ◌==◌}
 use Rattle.std.specs.Prelude.{◌&&◌, ◌||◌, not, nat_lt}
 use Rattle.std.proofs.lemmas.Bool.{and_parts, ltb-true, not-true}
-use Rattle.model_authority.specs.Statuses.{stage_of, is_closing, is_gone}
+use Rattle.model_authority.specs.Statuses.{stage_of}
 use Rattle.model_values.specs.declared.state.Phase.{Phase}
 use Rattle.model_values.specs.declared.state.Phase.TheVariants.{Wanted, Dialing, Open, Draining, Closing, Gone}
 
@@ -26,9 +26,9 @@ each_phase f h p =
     at a b c d e g Closing = e
     at a b c d e g Gone = g
 
-by_or : (a b : Bool) → (not a || b) ≡ true → a ≡ true → b ≡ true
-by_or true b h e = h
-by_or false b h e = absurd cc
+pub implied : (a b : Bool) → (not a || b) ≡ true → a ≡ true → b ≡ true
+implied true b h e = h
+implied false b h e = absurd cc
 
 by_two : (a b c : Bool) → (a || (b || c)) ≡ true → a ≡ false → b ≡ false → c ≡ true
 by_two true b c h e k = absurd cc
@@ -37,7 +37,7 @@ by_two false false c h e k = h
 
 -- what passes the first test passes the second
 pub follows : (f g : Phase → Bool) → is_each (λ p. not (f p) || g p) ≡ true → (p : Phase) → f p ≡ true → g p ≡ true
-follows f g h p e = by_or (f p) (g p) (each_phase (λ p. not (f p) || g p) h p) e
+follows f g h p e = implied (f p) (g p) (each_phase (λ p. not (f p) || g p) h p) e
 
 -- what passes the first test doesn't pass the second
 pub excludes : (f g : Phase → Bool) → is_each (λ p. not (f p) || not (g p)) ≡ true → (p : Phase) → f p ≡ true → g p ≡ false
@@ -49,11 +49,6 @@ or_else f g k h p e d = by_two (f p) (g p) (k p) (each_phase (λ p. f p || (g p 
 
 pub stage_most : (p : Phase) → stage_of p ≤ 5
 stage_most p = let below : stage_of p < 6 = ltb-true (stage_of p) 6 (each_phase (λ q. nat_lt (stage_of q) 6) refl p) in omega arith
-
-pub stage_before_closing : (p : Phase) → (is_closing p || is_gone p) ≡ false → stage_of p ≤ 4
-stage_before_closing p h =
-    let below : stage_of p < 5 = ltb-true (stage_of p) 5 (or_else (λ q. is_closing q || is_gone q) (λ q. false) (λ q. nat_lt (stage_of q) 5) refl p h refl) in
-    omega arith
 
 phase_at : ℕ → Phase
 phase_at n = cond (n == 0) Wanted (cond (n == 1) Dialing (cond (n == 2) Open (cond (n == 3) Draining (cond (n == 4) Closing Gone))))

@@ -1,5 +1,5 @@
 -- What a worker may say at a port by what it holds is what is legal for it at the state.
-use Rattle.std.proofs.Common.{◌≡◌, ◌≤◌, ◌↔◌, ℕ, Option, Some, None, Bool, true, false, cond, refl, sym, ap, subst, ◌∙◌, IsTrue, IsSomeAnd}
+use Rattle.std.proofs.Common.{◌≡◌, ◌≤◌, ◌↔◌, Option, Some, None, Bool, true, false, cond, refl, sym, ap, subst, IsTrue, IsSomeAnd}
 use Rattle.std.specs.Prelude.{◌==◌, ◌||◌}
 use Rattle.std.proofs.lemmas.Bool.{and_parts, and_from, eqb-true, eq-eqb, both_ways}
 use Rattle.net_base.specs.declared.end_cause.EndCause.{EndCause}

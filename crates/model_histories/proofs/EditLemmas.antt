@@ -44,7 +44,7 @@ edit_here (suc k) f xs x h =
     let e : edit (suc k) f xs ≡ slice_set xs k (f x) = edit_place k f xs ∙ ap (with_item xs k f) at in
     ap (numbered (suc k)) e ∙ numbered_at (slice_set xs k (f x)) k ∙ set_same xs k x (f x) at
 
-edit_none : {A : Type 0} (number : ℕ) (f : A → A) (xs : List A) → numbered number xs ≡ None → edit number f xs ≡ xs
+pub edit_none : {A : Type 0} (number : ℕ) (f : A → A) (xs : List A) → numbered number xs ≡ None → edit number f xs ≡ xs
 unfolding edit
 edit_none zero f xs h = refl
 edit_none (suc k) f xs h = edit_place k f xs ∙ ap (with_item xs k f) (sym (numbered_at xs k) ∙ h)

@@ -1,16 +1,17 @@
 -- What one entry leaves of what callers hold of one connection.
-use Rattle.std.proofs.Common.{◌≡◌, ℕ, List, [], Option, Some, None, Bool, true, false, cond, inl, inr, refl, sym, ap, subst, ◌∙◌}
+use Rattle.std.proofs.Common.{[], ◌≡◌, ℕ, List, Option, Some, None, Bool, true, false, cond, refl, sym, ap, subst, ◌∙◌, IsSomeAnd}
 use Rattle.std.specs.Prelude.{◌==◌, ◌&&◌, ◌||◌}
-use Rattle.std.proofs.lemmas.Bool.{cases_eq, eq-eqb, ne_eqb, cond-true, cond-false, cond_both, and_right, both_ways}
+use Rattle.std.proofs.lemmas.Bool.{eq-eqb, ne_eqb, cond-true, cond-false, cond_both, and_right, both_ways}
 use Rattle.net_base.specs.declared.end_cause.EndCause.{EndCause}
 use Rattle.net_base.specs.declared.numbers.CallerNo.{CallerNo}
 use Rattle.net_base.specs.declared.numbers.ConnNo.{ConnNo}
 use Rattle.net_base.specs.declared.numbers.StreamNo.{StreamNo}
 use Rattle.net_base.specs.declared.target.Target.{Target}
 use Rattle.model_changes.specs.Connections.{dialing_by, with_taken, with_sent}
-use Rattle.model_histories.proofs.KeepLemmas.{Keeps, keeps_up, KeptAt, kept_refl}
+use Rattle.model_histories.proofs.EffectLemmas.{OneBecomes, one_at}
+use Rattle.model_histories.proofs.KeepLemmas.{Keeps, keeps_up, new_untouched, KeptAt, kept_refl}
 use Rattle.model_histories.proofs.LeaseLemmas.{IsUp}
-use Rattle.model_histories.proofs.OwnLemmas.{IsOneEdit, MayWorkBy, IsReportedIn, IsGivenUp, busy_live}
+use Rattle.model_histories.proofs.OwnLemmas.{MayWorkBy, IsReportedIn, IsGivenUp, busy_live}
 use Rattle.model_histories.specs.Port.{Held, is_opening_report, held_after}
 use Rattle.model_histories.specs.Working.{works_on, holding, held_of}
 use Rattle.model_authority.proofs.PhaseLemmas.{follows, excludes}
@@ -63,13 +64,13 @@ held_none w c idle = cond-false (works_on w c) (Some (holding c)) None (and_righ
 
 held_kept : (w : CallerNo) (o p : Option Connection) → KeptAt o p → held_of w p ≡ held_of w o
 held_kept w None None k = refl
-held_kept w None (Some y) k = held_none w y (excludes is_wanted (λ p. is_dialing p || is_busy p) refl y.phase k.wanted)
+held_kept w None (Some y) k = held_none w y (excludes is_wanted (λ p. is_dialing p || is_busy p) refl y.phase (new_untouched y k).0)
 held_kept w (Some x) None k = absurd k
 held_kept w (Some x) (Some y) k = held_keeps w x y k
 
 fresh_kept : (o p : Option Connection) → KeptAt o p → IsFresh o → IsFresh p
 fresh_kept None None k f = tt
-fresh_kept None (Some y) k f = λ w. (k.sent, k.started)
+fresh_kept None (Some y) k f = λ w. let new = new_untouched y k in (new.1, new.2)
 fresh_kept (Some x) None k f = absurd k
 fresh_kept (Some x) (Some y) k f = λ w. let g = f (k.wanted w) in (k.sent ∙ g.0, k.started ∙ g.1)
 
@@ -91,16 +92,16 @@ kept_goes who act n o p apart k = record {
 
 -- ---- the connection that the act is about
 
--- the act changes one connection, and each other stays
-pub one_goes : (who : CallerNo) (act : Act) (number : ℕ) (R : Connection → Connection → Type 0) (x : Connection) (xs ys : List Connection) → numbered number xs ≡ Some x →
-    IsOneEdit R number x xs ys → ((n : ℕ) → (n ≡ number → ⊥) → IsApart act n) → ((y : Connection) → R x y → Goes who act number (Some x) (Some y)) →
-    (n : ℕ) → Goes who act n (numbered n xs) (numbered n ys)
-one_goes who act number R x xs ys is_item one apart here n =
-    elim (cases_eq n number) [
-      | inl e ↦ subst (λ i. Goes who act i (numbered i xs) (numbered i ys)) (sym e)
-          (subst (λ o. Goes who act number o (numbered number ys)) (sym is_item) (subst (Goes who act number (Some x)) (sym one.is_item) (here one.item one.changed)))
-      | inr e ↦ kept_goes who act n (numbered n xs) (numbered n ys) (apart n e) (subst (KeptAt (numbered n xs)) (sym (one.others n e)) (kept_refl (numbered n xs)))
-    ]
+-- the act changes one connection, which is as asked, and each other stays
+pub one_goes : (who : CallerNo) (act : Act) (number : ℕ) (R : Connection → Connection → Type 0) (Q : Connection → Type 0) (xs ys : List Connection) → OneBecomes R number xs ys →
+    IsSomeAnd (numbered number xs) Q → ((n : ℕ) → (n ≡ number → ⊥) → IsApart act n) →
+    ((x y : Connection) → numbered number xs ≡ Some x → Q x → R x y → Goes who act number (Some x) (Some y)) → (n : ℕ) → Goes who act n (numbered n xs) (numbered n ys)
+one_goes who act number R Q xs ys one fit apart here =
+    one_at (Goes who act) R number xs ys one (λ n o other. kept_goes who act n o o (apart n other) (kept_refl o)) (λ e. absurd (at None e))
+    (λ x y e r. here x y e (at (Some x) e) r)
+  where
+    at : (o : Option Connection) → numbered number xs ≡ o → IsSomeAnd o Q
+    at o e = subst (λ p. IsSomeAnd p Q) e fit
 
 apart_by : {A : Type 0} (conn c : ConnNo) (n : ℕ) (x y : A) → (n ≡ conn.0 → ⊥) → c.0 ≡ n → cond (conn.0 == c.0) x y ≡ y
 apart_by conn c n x y other e = cond-false (conn.0 == c.0) x y (ne_eqb conn.0 c.0 (λ s. other (sym e ∙ sym s)))

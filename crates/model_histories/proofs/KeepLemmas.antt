@@ -1,21 +1,20 @@
 -- What an entry of another worker, or of the pool itself, leaves of a connection as it was.
-use Rattle.std.proofs.Common.{◌≡◌, ℕ, List, [], ◌∷◌, ◌++◌, Option, Some, None, Bool, true, false, refl, sym, ap, ◌∙◌, slice_get, map}
-use Rattle.std.specs.Prelude.{◌||◌, not, filter, nat_lt, if◌then◌else◌}
-use Rattle.std.proofs.lemmas.Bool.{cond_both, false_from_ne_true, both_ways, or_parts, or_from}
-use Rattle.net_base.specs.declared.numbers.ConnNo.{ConnNo}
+use Rattle.std.proofs.Common.{[], ◌≡◌, ℕ, List, Option, Some, None, Bool, true, false, refl, sym, ap, subst, ◌∙◌, map, filter}
+use Rattle.std.specs.Prelude.{◌&&◌, ◌||◌, not, nat_lt, if◌then◌else◌}
+use Rattle.std.proofs.lemmas.Bool.{cond_both, false_from_ne_true, both_ways, or_parts, or_from, and_left, and_right, not-true}
 use Rattle.net_base.specs.declared.numbers.ExchangeNo.{ExchangeNo}
 use Rattle.net_base.specs.declared.numbers.Moment.{Moment}
 use Rattle.net_base.specs.declared.numbers.StreamNo.{StreamNo}
-use Rattle.model_changes.specs.Connections.{closing, idle_from, has_run_out, idle_if_run_out, other_streams, is_start, is_start_of, without_stream, without_start, without_exchange, stream_after, with_start, kept_open, without_reset, after_answer, after_large_answer, streams_left, draining, draining_or_closing, going_away, gone, after_shutdown}
-use Rattle.model_histories.proofs.EditLemmas.{edit_at, map_at, append_at}
-use Rattle.model_authority.proofs.PhaseLemmas.{follows, excludes, or_else}
-use Rattle.model_authority.specs.Lists.{numbered, edit, is_nil}
-use Rattle.model_authority.specs.Statuses.{is_wanted, is_dialing, is_open, is_draining, is_closing, is_gone, is_busy, is_opening, speaks_h2}
-use Rattle.model_values.specs.declared.order.OrderMark.TheVariants as mark
+use Rattle.model_changes.specs.Connections.{closing, idle_from, has_run_out, idle_if_run_out, other_streams, is_start_of, without_start, without_exchange, stream_after, with_start, gone, after_shutdown}
+use Rattle.model_histories.proofs.EditLemmas.{edit_at, map_at}
+use Rattle.model_histories.proofs.EffectLemmas.{Lasting, Leaves, going_by, leaves_closing, leaves_without_start, leaves_without_exchange, leaves_after_shutdown, IsNew, AddsAt}
+use Rattle.model_authority.proofs.PhaseLemmas.{each_phase, follows, excludes}
+use Rattle.model_authority.specs.Lists.{numbered, edit}
+use Rattle.model_authority.specs.Statuses.{is_wanted, is_dialing, is_open, is_draining, is_closing, is_busy, is_opening}
+use Rattle.model_values.specs.declared.order.OrderMark.{OrderMark}
 use Rattle.model_values.specs.declared.state.Connection.{Connection}
-use Rattle.model_values.specs.declared.state.Exchange.{Exchange}
 use Rattle.model_values.specs.declared.state.Phase.{Phase}
-use Rattle.model_values.specs.declared.state.Phase.TheVariants.{Draining, Closing}
+use Rattle.model_values.specs.declared.state.Phase.TheVariants.{Draining}
 
 -- ---- one connection
 
@@ -28,39 +27,8 @@ pub record Keeps (x y : Connection) : Type 0 where
   pub busy : is_busy y.phase ≡ is_busy x.phase
   pub wanted : is_wanted y.phase ≡ true → is_wanted x.phase ≡ true
 
-pub keeps_refl : (c : Connection) → Keeps c c
+keeps_refl : (c : Connection) → Keeps c c
 keeps_refl c = record { caller = refl; sent = refl; started = refl; dialing = refl; busy = refl; wanted = λ h. h }
-
-pub keeps_trans : (x y z : Connection) → Keeps x y → Keeps y z → Keeps x z
-keeps_trans x y z k l = record {
-  caller = l.caller ∙ k.caller;
-  sent = l.sent ∙ k.sent;
-  started = l.started ∙ k.started;
-  dialing = l.dialing ∙ k.dialing;
-  busy = l.busy ∙ k.busy;
-  wanted = λ h. k.wanted (l.wanted h);
-}
-
-pub keeps_phase : (x y : Connection) → y.caller ≡ x.caller → y.sent ≡ x.sent → y.started ≡ x.started → y.phase ≡ x.phase → Keeps x y
-keeps_phase x y caller sent started phase = record {
-  caller = caller;
-  sent = sent;
-  started = started;
-  dialing = ap (λ (p : Phase). is_dialing p) phase;
-  busy = ap (λ (p : Phase). is_busy p) phase;
-  wanted = λ h. ap (λ (p : Phase). is_wanted p) (sym phase) ∙ h;
-}
-
--- a busy one stays busy
-keeps_busy : (x y : Connection) → y.caller ≡ x.caller → y.sent ≡ x.sent → y.started ≡ x.started → is_busy x.phase ≡ true → is_busy y.phase ≡ true → Keeps x y
-keeps_busy x y caller sent started before later = record {
-  caller = caller;
-  sent = sent;
-  started = started;
-  dialing = excludes is_busy is_dialing refl y.phase later ∙ sym (excludes is_busy is_dialing refl x.phase before);
-  busy = later ∙ sym before;
-  wanted = λ h. absurd (both_ways (is_wanted y.phase) (excludes is_busy is_wanted refl y.phase later) h);
-}
 
 -- one that is up stays up
 pub keeps_up : (x y : Connection) → Keeps x y → is_opening x.phase ≡ false → is_opening y.phase ≡ false
@@ -68,113 +36,91 @@ keeps_up x y k up =
     let parts = or_parts (is_wanted x.phase) (is_dialing x.phase) up in
     or_from (is_wanted y.phase) (is_dialing y.phase) (false_from_ne_true (is_wanted y.phase) (λ w. both_ways (is_wanted x.phase) parts.0 (k.wanted w))) (k.dialing ∙ parts.1)
 
--- ---- what becomes of it
+abbrev agree : Bool → Bool → Bool
+agree a b = (a && b) || (not a && not b)
+
+agreed : (a b : Bool) → agree a b ≡ true → a ≡ b
+agreed true true h = refl
+agreed true false h = absurd cc
+agreed false true h = absurd cc
+agreed false false h = refl
+
+-- by any change by which one that isn't up yet doesn't close
+keeps_leaves : (x y : Connection) → Leaves x y → (is_opening x.phase && is_closing y.phase) ≡ false → Keeps x y
+keeps_leaves x y k calm =
+    let still : not (is_opening x.phase && is_closing y.phase) ≡ true = ap not calm in
+    record {
+      caller = ap (λ (l : Lasting). l.caller) k.lasts;
+      sent = ap (λ (l : Lasting). l.sent) k.lasts;
+      started = ap (λ (l : Lasting). l.started) k.lasts;
+      dialing = agreed (is_dialing y.phase) (is_dialing x.phase)
+          (going_by (λ p q. not (is_opening p && is_closing q)) (λ p q. agree (is_dialing q) (is_dialing p)) refl x.phase y.phase k.phase still);
+      busy = agreed (is_busy y.phase) (is_busy x.phase)
+          (going_by (λ p q. not (is_opening p && is_closing q)) (λ p q. agree (is_busy q) (is_busy p)) refl x.phase y.phase k.phase still);
+      wanted = going_by (λ p q. is_wanted q) (λ p q. is_wanted p) refl x.phase y.phase k.phase;
+    }
+
+keeps_leaves_up : (x y : Connection) → Leaves x y → is_opening x.phase ≡ false → Keeps x y
+keeps_leaves_up x y k up = keeps_leaves x y k (and_left (is_opening x.phase) (is_closing y.phase) up)
 
 pub keeps_closing : (c : Connection) → is_opening c.phase ≡ false → Keeps c (closing c)
-unfolding closing
-keeps_closing c up =
-    let closed : Connection = record c { phase = Closing; orders = mark.Close ∷ [] } in
-    cond_both (is_closing c.phase || is_gone c.phase) c closed (Keeps c) (λ t. keeps_refl c)
-    (λ f. keeps_busy c closed refl refl refl (or_else is_opening (λ p. is_closing p || is_gone p) is_busy refl c.phase up f) refl)
+keeps_closing c up = keeps_leaves_up c (closing c) (leaves_closing c) up
 
-keeps_idle_from : (now : Moment) (c : Connection) → Keeps c (idle_from now c)
-unfolding idle_from
-keeps_idle_from now c =
-    let idle : Connection = record c { idle_since = now } in
-    let same : Keeps c idle = keeps_phase c idle refl refl refl refl in
-    cond_both (is_draining c.phase) (closing idle) idle (Keeps c)
-    (λ d. keeps_trans c idle (closing idle) same (keeps_closing idle (excludes is_draining is_opening refl c.phase d))) (λ f. same)
+pub keeps_without_exchange : (r : StreamNo) (c : Connection) → is_opening c.phase ≡ false → Keeps c (without_exchange r c)
+keeps_without_exchange r c up = keeps_leaves_up c (without_exchange r c) (leaves_without_exchange r c) up
 
-keeps_run_out : (now : Moment) (old c : Connection) → Keeps c (idle_if_run_out now old c)
-unfolding idle_if_run_out
-keeps_run_out now old c = cond_both (has_run_out old c) (idle_from now c) c (Keeps c) (λ t. keeps_idle_from now c) (λ f. keeps_refl c)
+calm : (p : Phase) → (is_opening p && is_closing p) ≡ false
+calm p = not-true (is_opening p && is_closing p) (each_phase (λ q. not (is_opening q && is_closing q)) refl p)
 
-pub keeps_without_stream : (now : Moment) (r : StreamNo) (c : Connection) → Keeps c (without_stream now r c)
-unfolding without_stream
-keeps_without_stream now r c =
-    let less : Connection = record c { live = other_streams r c.live } in
-    keeps_trans c less (idle_if_run_out now c less) (keeps_phase c less refl refl refl refl) (keeps_run_out now c less)
+-- only one that drains closes where its live streams run out
+calm_run_out : (now : Moment) (live : List StreamNo) (orders : List OrderMark) (c : Connection) →
+    (is_opening c.phase && is_closing (idle_if_run_out now c (record c { live = live; orders = orders })).phase) ≡ false
+unfolding idle_if_run_out idle_from
+calm_run_out now live orders c =
+    let less : Connection = record c { live = live; orders = orders } in
+    let idle : Connection = record less { idle_since = now } in
+    let still : Connection → Type 0 = λ x. (is_opening c.phase && is_closing x.phase) ≡ false in
+    cond_both (has_run_out c less) (if is_draining c.phase then closing idle else idle) less still
+    (λ t. cond_both (is_draining c.phase) (closing idle) idle still
+    (λ d. and_left (is_opening c.phase) (is_closing (closing idle).phase) (excludes is_draining is_opening refl c.phase d)) (λ f. calm c.phase)) (λ f. calm c.phase)
 
 pub keeps_without_start : (now : Moment) (r : StreamNo) (c : Connection) → Keeps c (without_start now r c)
 unfolding without_start
 keeps_without_start now r c =
-    let less : Connection = record c { live = other_streams r c.live; orders = filter (λ m. not (is_start_of r m)) c.orders } in
-    keeps_trans c less (idle_if_run_out now c less) (keeps_phase c less refl refl refl refl) (keeps_run_out now c less)
+    keeps_leaves c (without_start now r c) (leaves_without_start now r c) (calm_run_out now (other_streams r c.live) (filter (λ m. not (is_start_of r m)) c.orders) c)
 
-pub keeps_without_exchange : (r : StreamNo) (c : Connection) → is_opening c.phase ≡ false → Keeps c (without_exchange r c)
-unfolding without_exchange
-keeps_without_exchange r c up =
-    let told : Connection = record c { orders = c.orders ++ mark.Reset r ∷ [] } in
-    cond_both (speaks_h2 c) told (closing c) (Keeps c) (λ t. keeps_phase c told refl refl refl refl) (λ f. keeps_closing c up)
+calm_after_shutdown : (c : Connection) → (is_opening c.phase && is_closing (after_shutdown c).phase) ≡ false
+unfolding after_shutdown
+calm_after_shutdown c =
+    let up : Connection = if is_open c.phase || is_draining c.phase then closing c else c in
+    let still : Connection → Type 0 = λ x. (is_opening c.phase && is_closing x.phase) ≡ false in
+    cond_both (is_wanted c.phase) (gone c) up still (λ w. and_right (is_opening c.phase) false refl)
+    (λ f. cond_both (is_open c.phase || is_draining c.phase) (closing c) c still
+    (λ t. and_left (is_opening c.phase) (is_closing (closing c).phase) (excludes (λ p. is_open p || is_draining p) is_opening refl c.phase t)) (λ g. calm c.phase))
+
+pub keeps_after_shutdown : (c : Connection) → Keeps c (after_shutdown c)
+keeps_after_shutdown c = keeps_leaves c (after_shutdown c) (leaves_after_shutdown c) (calm_after_shutdown c)
 
 pub keeps_with_start : (last : ℕ) (e : ExchangeNo) (r : StreamNo) (c : Connection) → is_open c.phase ≡ true → Keeps c (with_start last e r c)
 unfolding with_start
 keeps_with_start last e r c opened =
-    let busy : is_busy c.phase ≡ true = follows is_open is_busy refl c.phase opened in
-    keeps_busy c (with_start last e r c) refl refl refl busy
-    (cond_both (nat_lt last (stream_after r c)) Draining c.phase (λ (p : Phase). is_busy p ≡ true) (λ t. refl) (λ f. busy))
-
-keeps_kept_open : (keep : Bool) (c : Connection) → is_opening c.phase ≡ false → Keeps c (kept_open keep c)
-keeps_kept_open true c up = keeps_refl c
-keeps_kept_open false c up = keeps_closing c up
-
-pub keeps_after_answer : (now : Moment) (r : StreamNo) (keep : Bool) (c : Connection) → is_opening c.phase ≡ false → Keeps c (after_answer now r keep c)
-unfolding after_answer
-keeps_after_answer now r keep c up =
-    let less : Connection = without_reset r c in
-    let left : Connection = without_stream now r less in
-    let k : Keeps c left = keeps_trans c less left (keeps_phase c less refl refl refl refl) (keeps_without_stream now r less) in
-    keeps_trans c left (kept_open keep left) k (keeps_kept_open keep left (keeps_up c left k up))
-
-pub keeps_after_too_large : (now : Moment) (r : StreamNo) (c : Connection) → is_opening c.phase ≡ false → Keeps c (after_large_answer now r c)
-unfolding after_large_answer
-keeps_after_too_large now r c up =
-    let left : Connection = without_stream now r c in
-    let k : Keeps c left = keeps_without_stream now r c in
-    keeps_trans c left (kept_open (speaks_h2 c) left) k (keeps_kept_open (speaks_h2 c) left (keeps_up c left k up))
-
-keeps_draining : (c : Connection) → Keeps c (draining c)
-keeps_draining c =
-    let drained : Connection = record c { phase = Draining } in
-    cond_both (is_open c.phase) drained c (Keeps c) (λ t. keeps_busy c drained refl refl refl (follows is_open is_busy refl c.phase t) refl) (λ f. keeps_refl c)
-
-keeps_drained : (c : Connection) → is_opening c.phase ≡ false → Keeps c (draining_or_closing c)
-keeps_drained c up = cond_both (is_nil c.live) (closing c) (draining c) (Keeps c) (λ t. keeps_closing c up) (λ f. keeps_draining c)
-
-pub keeps_after_goaway : (now : Moment) (conn : ConnNo) (es : List Exchange) (last : StreamNo) (c : Connection) → is_opening c.phase ≡ false →
-    Keeps c (going_away now conn es last c)
-unfolding going_away
-keeps_after_goaway now conn es last c up =
-    let less : Connection = record c { live = streams_left conn es last c.live; orders = filter (λ m. not (is_start m)) c.orders } in
-    let left : Connection = idle_if_run_out now c less in
-    let k : Keeps c left = keeps_trans c less left (keeps_phase c less refl refl refl refl) (keeps_run_out now c less) in
-    keeps_trans c left (draining_or_closing left) k (keeps_drained left (keeps_up c left k up))
-
-pub keeps_after_shutdown : (c : Connection) → Keeps c (after_shutdown c)
-unfolding after_shutdown
-keeps_after_shutdown c =
-    let up : Connection = if is_open c.phase || is_draining c.phase then closing c else c in
-    cond_both (is_wanted c.phase) (gone c) up (Keeps c) given_up
-    (λ f. cond_both (is_open c.phase || is_draining c.phase) (closing c) c (Keeps c) (λ t. keeps_closing c (excludes (λ p. is_open p || is_draining p) is_opening refl c.phase t)) (λ g. keeps_refl c))
-  where
-    given_up : is_wanted c.phase ≡ true → Keeps c (gone c)
-    given_up w =
-        record {
-          caller = refl;
-          sent = refl;
-          started = refl;
-          dialing = sym (excludes is_wanted is_dialing refl c.phase w);
-          busy = sym (excludes is_wanted is_busy refl c.phase w);
-          wanted = λ h. w;
-        }
+    let P : Phase → Type 0 = λ p. (is_dialing p ≡ false) × (is_busy p ≡ true) × (is_wanted p ≡ false) in
+    let before : P c.phase = (excludes is_open is_dialing refl c.phase opened, follows is_open is_busy refl c.phase opened, excludes is_open is_wanted refl c.phase opened) in
+    let later : P (with_start last e r c).phase = cond_both (nat_lt last (stream_after r c)) Draining c.phase P (λ t. (refl, refl, refl)) (λ f. before) in
+    record {
+      caller = refl;
+      sent = refl;
+      started = refl;
+      dialing = later.0 ∙ sym before.0;
+      busy = later.1 ∙ sym before.1;
+      wanted = λ w. absurd (both_ways (is_wanted (with_start last e r c).phase) later.2 w);
+    }
 
 -- ---- lists of connections
 
--- a connection that nobody has dialed
-pub record IsNew (c : Connection) : Type 0 where
-  pub wanted : is_wanted c.phase ≡ true
-  pub sent : c.sent ≡ 0
-  pub started : c.started ≡ []
+-- nobody has dialed a new one
+pub new_untouched : (c : Connection) → IsNew c → (is_wanted c.phase ≡ true) × (c.sent ≡ 0) × (c.started ≡ [])
+new_untouched c new = subst (λ (x : Connection). (is_wanted x.phase ≡ true) × (x.sent ≡ 0) × (x.started ≡ [])) (sym new.is_new) (refl, refl, refl)
 
 abbrev pub KeptAt : Option Connection → Option Connection → Type 0
 KeptAt None None = Unit {0}
@@ -185,6 +131,12 @@ KeptAt (Some x) (Some y) = Keeps x y
 pub kept_refl : (o : Option Connection) → KeptAt o o
 kept_refl None = tt
 kept_refl (Some c) = keeps_refl c
+
+pub kept_adds : (o p : Option Connection) → AddsAt o p → KeptAt o p
+kept_adds None None a = tt
+kept_adds None (Some y) a = a
+kept_adds (Some x) None a = a
+kept_adds (Some x) (Some y) a = subst (Keeps x) (sym a) (keeps_refl x)
 
 -- each connection is kept, and further ones are new
 abbrev pub AreKept : List Connection → List Connection → Type 0
@@ -199,6 +151,3 @@ kept_edit number f xs keeps n = edit_at KeptAt number n f xs kept_refl keeps
 
 pub kept_map : (f : Connection → Connection) (xs : List Connection) → ((c : Connection) → Keeps c (f c)) → AreKept xs (map f xs)
 kept_map f xs keeps n = map_at KeptAt n f xs tt keeps
-
-pub kept_append : (xs ys : List Connection) → ((i : ℕ) (c : Connection) → slice_get ys i ≡ Some c → IsNew c) → AreKept xs (xs ++ ys)
-kept_append xs ys new n = append_at KeptAt n xs ys kept_refl new

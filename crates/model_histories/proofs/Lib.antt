@@ -2,6 +2,7 @@ pub mod AllowedLemmas
 pub mod CauseLemmas
 pub mod DialLemmas
 pub mod EditLemmas
+pub mod EffectLemmas
 pub mod FirstBadLemmas
 pub mod HeldLemmas
 pub mod HistoryLemmas

@@ -5,19 +5,17 @@ use Rattle.net_base.specs.declared.end_cause.EndCause.{EndCause}
 use Rattle.net_base.specs.declared.numbers.CallerNo.{CallerNo}
 use Rattle.net_base.specs.declared.numbers.ConnNo.{ConnNo}
 use Rattle.net_base.specs.declared.numbers.StreamNo.{StreamNo}
-use Rattle.model_changes.specs.Connections.{with_sent}
+use Rattle.model_changes.specs.Connections.{gone, with_sent}
 use Rattle.model_laws.proofs.CourseLemmas.{state_later, state_after}
 use Rattle.model_laws.proofs.FitLemmas.{closes, IsFit, fit_stand}
 use Rattle.model_laws.proofs.StayLemmas.{TurnsAt}
 use Rattle.model_laws.proofs.TurnLemmas.{no_claim, turned_act}
 use Rattle.model_laws.specs.Courses.{state_at, OfConnection}
 use Rattle.model_laws.specs.EndLaws.{ConnectionsGoForward, ClosedOnesAreGone, GoneStaysGone}
-use Rattle.model_histories.proofs.EditLemmas.{edit_here}
-use Rattle.model_histories.proofs.OwnLemmas.{IsOneEdit, IsGivenUp, gone_closed}
+use Rattle.model_histories.proofs.EffectLemmas.{OneBecomes, effect_act}
 use Rattle.model_histories.specs.Histories.{MayStand}
 use Rattle.model_histories.specs.Legal.{MayClose}
-use Rattle.model_steps.specs.After.{noted, sent_noted, after, after_act}
-use Rattle.model_steps.specs.Lost.{after_closed}
+use Rattle.model_steps.specs.After.{noted, after, after_act}
 use Rattle.model_authority.proofs.NumberLemmas.{and_value, value_and}
 use Rattle.model_authority.specs.Lists.{numbered}
 use Rattle.model_authority.proofs.PhaseLemmas.{same_phase}
@@ -68,17 +66,13 @@ gone_stays_gone config h n m c history later here = state_later config h n m (λ
 
 -- ---- the end of a connection
 
-gone_edited : (c : ℕ) (x : Connection) (xs ys : List Connection) → IsOneEdit IsGivenUp c x xs ys → IsSomeAnd (numbered c ys) (λ y. y.phase ≡ Gone)
-gone_edited c x xs ys one = and_value (numbered c ys) (λ y. y.phase ≡ Gone) one.item one.is_item one.changed
-
 gone_behind : (s : AbstractPool) (who : CallerNo) (c : ConnNo) (sent : ℕ) (cause : EndCause) (heard : List StreamNo) → IsFit s (Closed c sent cause heard) →
     OfConnection (after_act s who (Closed c sent cause heard)) c (λ y. y.phase ≡ Gone)
 gone_behind s who c sent cause heard fit =
-    let t : AbstractPool = sent_noted s c sent in
-    let act : Act = Closed c sent cause heard in
     let v = value_and (numbered c.0 s.connections) (λ x. MayClose x cause) fit in
-    let first : numbered c.0 t.connections ≡ Some (with_sent sent v.0) = edit_here c.0 (with_sent sent) s.connections v.0 v.1 in
-    gone_edited c.0 (with_sent sent v.0) t.connections (after_closed t c cause heard).connections (gone_closed t c cause heard (with_sent sent v.0) first)
+    let one : OneBecomes (λ x y. y ≡ gone (with_sent sent x)) c.0 s.connections (after_act s who (Closed c sent cause heard)).connections = effect_act s who (Closed c sent cause heard) in
+    let left = one.changed v.0 v.1 in
+    and_value (numbered c.0 (after_act s who (Closed c sent cause heard)).connections) (λ y. y.phase ≡ Gone) left.0 left.1 (ap (λ (y : Connection). y.phase) left.2)
 
 pub closed_ones_are_gone : ClosedOnesAreGone
 unfolding after

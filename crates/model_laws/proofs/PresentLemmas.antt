@@ -1,27 +1,29 @@
 -- What an entry leaves of a connection: its group, and where it was gone that it is gone. So it adds to no count.
-use Rattle.std.proofs.Common.{◌≡◌, ℕ, ◌≤◌, zero, suc, List, [], ◌∷◌, Option, Some, None, Bool, true, false, refl, ap, subst, ◌∙◌, arith, cond, slice_get, map}
-use Rattle.std.specs.Prelude.{◌++◌, ◌&&◌, ◌||◌, not, filter, if◌then◌else◌, count_by}
-use Rattle.std.proofs.lemmas.Bool.{cond_both, or_parts}
+use Rattle.std.proofs.Common.{length, [], ◌≡◌, ℕ, ◌≤◌, zero, suc, List, ◌∷◌, Option, Some, None, Bool, true, false, refl, sym, ap, subst, arith, cond, slice_get, IsTrue, is_some}
+use Rattle.std.specs.Prelude.{◌&&◌, not, count_by}
+use Rattle.std.proofs.lemmas.Bool.{cond_both}
 use Rattle.std.proofs.lemmas.List.Sums.{sum_by-cons}
 use Rattle.net_base.specs.declared.identity.Identity.{Identity}
-use Rattle.net_base.specs.declared.numbers.ConnNo.{ConnNo}
+use Rattle.net_base.specs.declared.numbers.CallerNo.{CallerNo}
 use Rattle.net_base.specs.declared.numbers.ExchangeNo.{ExchangeNo}
 use Rattle.net_base.specs.declared.numbers.Moment.{Moment}
 use Rattle.net_base.specs.declared.numbers.StreamNo.{StreamNo}
-use Rattle.model_changes.specs.Connections.{closing, idle_from, has_run_out, idle_if_run_out, other_streams, is_start, is_start_of, without_stream, without_start, without_exchange, suits, opened_with, after_opened, with_start, kept_open, without_reset, after_answer, excluding, after_large_answer, streams_left, draining, going_away, gone, after_shutdown}
-use Rattle.model_histories.proofs.EditLemmas.{edit_at, map_at}
-use Rattle.net_base.specs.declared.response.Response.{Response}
-use Rattle.model_steps.specs.Answered.{lease_at, is_misdirected, excluding_misdirected, answered_connection}
+use Rattle.model_changes.specs.Connections.{closing, suits, opened_with, refused_with, after_opened, with_start, gone, with_sent}
+use Rattle.model_laws.proofs.FitLemmas.{same_item, Gives, IsFit}
+use Rattle.model_laws.proofs.TurnLemmas.{at_item}
+use Rattle.model_histories.proofs.EffectLemmas.{Lasting, Leaves, going_by, leaves_closing, IsReported, conn_of, Changes, IsAdding, effect_at}
+use Rattle.model_histories.specs.Legal.{MayReport}
+use Rattle.model_steps.specs.After.{after_act}
 use Rattle.model_authority.proofs.NumberLemmas.{numbered_at}
 use Rattle.model_authority.proofs.PhaseLemmas.{excludes}
-use Rattle.model_authority.specs.Lists.{numbered, edit, is_nil}
-use Rattle.model_authority.specs.Statuses.{is_wanted, is_open, is_draining, is_closing, is_gone, speaks_h2}
-use Rattle.model_values.specs.declared.order.OrderMark.TheVariants as mark
+use Rattle.model_authority.specs.Lists.{numbered}
+use Rattle.model_authority.specs.Statuses.{is_wanted, is_dialing, is_open, is_gone}
+use Rattle.model_values.specs.declared.entry.Act.{Act}
+use Rattle.model_values.specs.declared.entry.Act.TheVariants.{Dial, Orders, Reported, Closed, Assign}
+use Rattle.model_values.specs.declared.report.Report.{Report}
+use Rattle.model_values.specs.declared.report.Report.TheVariants as report
 use Rattle.model_values.specs.declared.state.AbstractPool.{AbstractPool}
 use Rattle.model_values.specs.declared.state.Connection.{Connection}
-use Rattle.model_values.specs.declared.state.Exchange.{Exchange}
-use Rattle.model_values.specs.declared.state.Phase.{Phase}
-use Rattle.model_values.specs.declared.state.Phase.TheVariants.{Draining, Closing}
 
 -- ---- one connection
 
@@ -30,121 +32,32 @@ pub record StaysOut (x y : Connection) : Type 0 where
   pub group : y.group ≡ x.group
   pub gone : is_gone x.phase ≡ true → is_gone y.phase ≡ true
 
-pub out_refl : (c : Connection) → StaysOut c c
-out_refl c = record { group = refl; gone = λ g. g }
-
-pub out_trans : (x y z : Connection) → StaysOut x y → StaysOut y z → StaysOut x z
-out_trans x y z k l = record { group = l.group ∙ k.group; gone = λ g. l.gone (k.gone g) }
-
-pub out_phase : (x y : Connection) → y.group ≡ x.group → y.phase ≡ x.phase → StaysOut x y
-out_phase x y group phase = record { group = group; gone = λ g. ap (λ (p : Phase). is_gone p) phase ∙ g }
+out_leaves : (x y : Connection) → Leaves x y → StaysOut x y
+out_leaves x y k = record { group = ap (λ (l : Lasting). l.group) k.lasts; gone = going_by (λ p q. is_gone p) (λ p q. is_gone q) refl x.phase y.phase k.phase }
 
 -- of one that isn't gone the group alone is asked
-pub out_there : (x y : Connection) → y.group ≡ x.group → is_gone x.phase ≡ false → StaysOut x y
+out_there : (x y : Connection) → y.group ≡ x.group → is_gone x.phase ≡ false → StaysOut x y
 out_there x y group there = record { group = group; gone = λ g. absurd cc }
 
-pub out_closing : (c : Connection) → StaysOut c (closing c)
-unfolding closing
-out_closing c =
-    let closed : Connection = record c { phase = Closing; orders = mark.Close ∷ [] } in
-    cond_both (is_closing c.phase || is_gone c.phase) c closed (StaysOut c) (λ t. out_refl c)
-    (λ f. out_there c closed refl (or_parts (is_closing c.phase) (is_gone c.phase) f).1)
-
-out_idle_from : (now : Moment) (c : Connection) → StaysOut c (idle_from now c)
-unfolding idle_from
-out_idle_from now c =
-    let idle : Connection = record c { idle_since = now } in
-    let same : StaysOut c idle = out_phase c idle refl refl in
-    cond_both (is_draining c.phase) (closing idle) idle (StaysOut c) (λ d. out_trans c idle (closing idle) same (out_closing idle)) (λ f. same)
-
--- where the live streams run out it idles from now on
-out_run_out : (now : Moment) (old c : Connection) → StaysOut c (idle_if_run_out now old c)
-unfolding idle_if_run_out
-out_run_out now old c = cond_both (has_run_out old c) (idle_from now c) c (StaysOut c) (λ t. out_idle_from now c) (λ f. out_refl c)
-
-pub out_without_stream : (now : Moment) (r : StreamNo) (c : Connection) → StaysOut c (without_stream now r c)
-unfolding without_stream
-out_without_stream now r c =
-    let less : Connection = record c { live = other_streams r c.live } in
-    out_trans c less (idle_if_run_out now c less) (out_phase c less refl refl) (out_run_out now c less)
-
-pub out_without_start : (now : Moment) (r : StreamNo) (c : Connection) → StaysOut c (without_start now r c)
-unfolding without_start
-out_without_start now r c =
-    let less : Connection = record c { live = other_streams r c.live; orders = filter (λ m. not (is_start_of r m)) c.orders } in
-    out_trans c less (idle_if_run_out now c less) (out_phase c less refl refl) (out_run_out now c less)
-
-pub out_without_exchange : (r : StreamNo) (c : Connection) → StaysOut c (without_exchange r c)
-unfolding without_exchange
-out_without_exchange r c =
-    let told : Connection = record c { orders = c.orders ++ mark.Reset r ∷ [] } in
-    cond_both (speaks_h2 c) told (closing c) (StaysOut c) (λ t. out_phase c told refl refl) (λ f. out_closing c)
-
 -- one that has no number left drains, which one that is gone must not
-pub out_with_start : (last : ℕ) (e : ExchangeNo) (r : StreamNo) (c : Connection) → is_gone c.phase ≡ false → StaysOut c (with_start last e r c)
+out_with_start : (last : ℕ) (e : ExchangeNo) (r : StreamNo) (c : Connection) → is_gone c.phase ≡ false → StaysOut c (with_start last e r c)
 unfolding with_start
 out_with_start last e r c there = out_there c (with_start last e r c) refl there
 
 -- an identity is shown by one that is dialed
-pub out_opened : (is_shut : Bool) (now : Moment) (id : Identity) (c : Connection) → is_gone c.phase ≡ false → StaysOut c (after_opened is_shut now id c)
+out_opened : (is_shut : Bool) (now : Moment) (id : Identity) (c : Connection) → is_gone c.phase ≡ false → StaysOut c (after_opened is_shut now id c)
 unfolding after_opened
 out_opened is_shut now id c there =
     let shown : Connection = record c { identity = Some id } in
-    cond_both (not is_shut && suits c.group id) (opened_with now id c) (closing shown) (StaysOut c)
-    (λ t. out_there c (opened_with now id c) refl there) (λ f. out_trans c shown (closing shown) (out_phase c shown refl refl) (out_closing shown))
+    cond_both (not is_shut && suits c.group id) (opened_with now id c) (refused_with id c) (StaysOut c)
+    (λ t. out_there c (opened_with now id c) refl there) (λ f. out_there c (closing shown) (out_leaves shown (closing shown) (leaves_closing shown)).group there)
 
-out_kept_open : (keep : Bool) (c : Connection) → StaysOut c (kept_open keep c)
-out_kept_open true c = out_refl c
-out_kept_open false c = out_closing c
-
-pub out_after_answer : (now : Moment) (r : StreamNo) (keep : Bool) (c : Connection) → StaysOut c (after_answer now r keep c)
-unfolding after_answer
-out_after_answer now r keep c =
-    let less : Connection = without_reset r c in
-    let left : Connection = without_stream now r less in
-    let k : StaysOut c left = out_trans c less left (out_phase c less refl refl) (out_without_stream now r less) in
-    out_trans c left (kept_open keep left) k (out_kept_open keep left)
-
-pub out_after_too_large : (now : Moment) (r : StreamNo) (c : Connection) → StaysOut c (after_large_answer now r c)
-unfolding after_large_answer
-out_after_too_large now r c =
-    let left : Connection = without_stream now r c in
-    out_trans c left (kept_open (speaks_h2 c) left) (out_without_stream now r c) (out_kept_open (speaks_h2 c) left)
-
-out_draining : (c : Connection) → StaysOut c (draining c)
-out_draining c =
-    let drained : Connection = record c { phase = Draining } in
-    cond_both (is_open c.phase) drained c (StaysOut c) (λ t. out_there c drained refl (excludes is_open is_gone refl c.phase t)) (λ f. out_refl c)
-
-pub out_after_goaway : (now : Moment) (conn : ConnNo) (es : List Exchange) (last : StreamNo) (c : Connection) → StaysOut c (going_away now conn es last c)
-unfolding going_away
-out_after_goaway now conn es last c =
-    let less : Connection = record c { live = streams_left conn es last c.live; orders = filter (λ m. not (is_start m)) c.orders } in
-    let left : Connection = idle_if_run_out now c less in
-    let k : StaysOut c left = out_trans c less left (out_phase c less refl refl) (out_run_out now c less) in
-    cond_both (is_nil left.live) (closing left) (draining left) (StaysOut c)
-    (λ t. out_trans c left (closing left) k (out_closing left)) (λ f. out_trans c left (draining left) k (out_draining left))
-
-pub out_gone : (c : Connection) → StaysOut c (gone c)
-out_gone c = record { group = refl; gone = λ g. refl }
-
-pub out_after_shutdown : (c : Connection) → StaysOut c (after_shutdown c)
-unfolding after_shutdown
-out_after_shutdown c =
-    let up : Connection = if is_open c.phase || is_draining c.phase then closing c else c in
-    cond_both (is_wanted c.phase) (gone c) up (StaysOut c) (λ w. out_gone c)
-    (λ f. cond_both (is_open c.phase || is_draining c.phase) (closing c) c (StaysOut c) (λ t. out_closing c) (λ g. out_refl c))
-
-out_excluding : (response : Response) (lease : Option Exchange) (c : Connection) → StaysOut c (excluding_misdirected response lease c)
-out_excluding response None c = out_refl c
-out_excluding response (Some e) c =
-    let without : Connection = excluding e.ask.request.origin c in
-    cond_both (is_misdirected response e) without c (StaysOut c) (λ t. out_phase c without refl refl) (λ f. out_refl c)
-
-pub out_answered : (s : AbstractPool) (conn : ConnNo) (r : StreamNo) (response : Response) (keep : Bool) (c : Connection) → StaysOut c (answered_connection s.latest r response keep (lease_at s conn r) c)
-out_answered s conn r response keep c =
-    let moved : Connection = excluding_misdirected response (lease_at s conn r) c in
-    out_trans c moved (after_answer s.latest r keep moved) (out_excluding response (lease_at s conn r) c) (out_after_answer s.latest r keep moved)
+out_reported : (s : AbstractPool) (sent : ℕ) (r : Report) (x y : Connection) → MayReport x r → IsReported s r (with_sent sent x) y → StaysOut x y
+out_reported s sent (report.Opened id) x y may is =
+    let z : Connection = with_sent sent x in
+    let k : StaysOut z (after_opened (is_some s.shutdown) s.latest id z) = out_opened (is_some s.shutdown) s.latest id z (excludes is_dialing is_gone refl x.phase may) in
+    subst (StaysOut x) (sym is) (record { group = k.group; gone = k.gone })
+out_reported s sent r x y may is = let k : StaysOut (with_sent sent x) y = out_leaves (with_sent sent x) y is in record { group = k.group; gone = k.gone }
 
 -- ---- lists of connections
 
@@ -154,34 +67,28 @@ OutAt None (Some y) = ⊥
 OutAt (Some x) None = ⊥
 OutAt (Some x) (Some y) = StaysOut x y
 
-out_at_refl : (o : Option Connection) → OutAt o o
-out_at_refl None = tt
-out_at_refl (Some c) = out_refl c
-
-out_at_trans : (o p q : Option Connection) → OutAt o p → OutAt p q → OutAt o q
-out_at_trans None None None k l = tt
-out_at_trans None None (Some z) k l = absurd l
-out_at_trans None (Some y) q k l = absurd k
-out_at_trans (Some x) None q k l = absurd k
-out_at_trans (Some x) (Some y) None k l = absurd l
-out_at_trans (Some x) (Some y) (Some z) k l = out_trans x y z k l
-
 -- none is added, and each that was gone is gone
 abbrev pub AddsNone : List Connection → List Connection → Type 0
 AddsNone xs ys = (n : ℕ) → OutAt (numbered n xs) (numbered n ys)
 
-pub adds_same : (xs : List Connection) → AddsNone xs xs
-adds_same xs n = out_at_refl (numbered n xs)
+-- ---- acts
 
-pub adds_trans : (xs ys zs : List Connection) → AddsNone xs ys → AddsNone ys zs → AddsNone xs zs
-adds_trans xs ys zs k l n = out_at_trans (numbered n xs) (numbered n ys) (numbered n zs) (k n) (l n)
+out_change : (s : AbstractPool) (who : CallerNo) (act : Act) → IsFit s act → (x y : Connection) → numbered (conn_of act) s.connections ≡ Some x → Changes s who act x y → StaysOut x y
+out_change s who (Dial c target) fit x y is_item is =
+    let wanted = at_item (λ z. IsTrue (is_wanted z.phase)) (numbered c.0 s.connections) x fit is_item in
+    out_there x y (ap (λ (z : Connection). z.group) is) (excludes is_wanted is_gone refl x.phase wanted)
+out_change s who (Orders c sent orders) fit x y is_item is = subst (StaysOut x) (sym is) (record { group = refl; gone = λ g. g })
+out_change s who (Reported c sent r) fit x y is_item is = out_reported s sent r x y (at_item (λ z. MayReport z r) (numbered c.0 s.connections) x fit is_item) is
+out_change s who (Closed c sent cause heard) fit x y is_item is = subst (StaysOut x) (sym is) (record { group = refl; gone = λ g. refl })
+out_change s who (Assign e c r by) fit x y is_item is =
+    let gives : Gives s c r = fit.1 in
+    let opened : is_open x.phase ≡ true =
+    subst (λ (z : Connection). is_open z.phase ≡ true) (same_item (numbered c.0 s.connections) gives.connection x gives.is_connection is_item) gives.opened in
+    subst (StaysOut x) (sym is) (out_with_start s.config.last_stream e r x (excludes is_open is_gone refl x.phase opened))
+out_change s who _ fit x y is_item is = out_leaves x y is
 
-pub adds_edit : (number : ℕ) (f : Connection → Connection) (xs : List Connection) → ((c : Connection) → numbered number xs ≡ Some c → StaysOut c (f c)) →
-    AddsNone xs (edit number f xs)
-adds_edit number f xs out n = edit_at OutAt number n f xs out_at_refl out
-
-pub adds_map : (f : Connection → Connection) (xs : List Connection) → ((c : Connection) → StaysOut c (f c)) → AddsNone xs (map f xs)
-adds_map f xs out n = map_at OutAt n f xs tt out
+pub adds_act : (s : AbstractPool) (who : CallerNo) (act : Act) → IsFit s act → (IsAdding act → ⊥) → AddsNone s.connections (after_act s who act).connections
+adds_act s who act fit none = effect_at (λ n. OutAt) s who act (λ n. tt) (λ n. out_leaves) (λ adds. absurd (none adds)) (out_change s who act fit)
 
 -- ---- counts
 
@@ -205,6 +112,18 @@ count_places test of (x ∷ xs) (y ∷ ys) out =
     let rest : count_by test ys ≤ count_by test xs = count_places test of xs ys (λ k. out (suc k)) in
     omega (arith, one, rest, sum_by-cons (λ (c : Connection). cond (test c) 1 0) x xs, sum_by-cons (λ (c : Connection). cond (test c) 1 0) y ys)
 
+places : (xs ys : List Connection) → AddsNone xs ys → (k : ℕ) → OutAt (slice_get xs k) (slice_get ys k)
+places xs ys adds k = subst (λ o. OutAt o (slice_get ys k)) (numbered_at xs k) (subst (OutAt (numbered (suc k) xs)) (numbered_at ys k) (adds (suc k)))
+
 pub count_adds : (test : Connection → Bool) → IsOfPresent test → (xs ys : List Connection) → AddsNone xs ys → count_by test ys ≤ count_by test xs
-count_adds test of xs ys adds =
-    count_places test of xs ys (λ k. subst (λ o. OutAt o (slice_get ys k)) (numbered_at xs k) (subst (OutAt (numbered (suc k) xs)) (numbered_at ys k) (adds (suc k))))
+count_adds test of xs ys adds = count_places test of xs ys (places xs ys adds)
+
+length_places : (xs ys : List Connection) → ((k : ℕ) → OutAt (slice_get xs k) (slice_get ys k)) → length ys ≡ length xs
+length_places [] [] out = refl
+length_places [] (y ∷ ys) out = absurd (out zero)
+length_places (x ∷ xs) [] out = absurd (out zero)
+length_places (x ∷ xs) (y ∷ ys) out = ap suc (length_places xs ys (λ k. out (suc k)))
+
+-- and as many connections are there as before
+pub length_adds : (xs ys : List Connection) → AddsNone xs ys → length ys ≡ length xs
+length_adds xs ys adds = length_places xs ys (places xs ys adds)

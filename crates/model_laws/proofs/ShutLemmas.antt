@@ -1,6 +1,6 @@
 -- A shutdown is final: each exchange has ended, no connection is wanted, open or draining, and nothing begins.
-use Rattle.std.proofs.Common.{◌≡◌, ◌<◌, ◌+◌, ◌⊎◌, ℕ, List, Option, Some, None, Bool, true, inl, inr, refl, sym, ap, subst, ◌∙◌, arith, is_some, IsSome, IsTrue}
-use Rattle.std.specs.Prelude.{◌||◌}
+use Rattle.std.proofs.Common.{[], ◌∷◌, ◌≡◌, ◌<◌, ◌+◌, ◌⊎◌, ℕ, List, Option, Some, None, Bool, true, inl, inr, refl, sym, ap, subst, ◌∙◌, arith, is_some, IsSome, IsTrue}
+use Rattle.std.specs.Prelude.{◌||◌, not, if◌then◌else◌}
 use Rattle.std.proofs.lemmas.Bool.{cond_both, both_ways, false_from_ne_true, or_from}
 use Rattle.net_base.specs.declared.end_cause.EndCause.{EndCause}
 use Rattle.net_base.specs.declared.identity.Identity.{Identity}
@@ -8,37 +8,38 @@ use Rattle.net_base.specs.declared.numbers.CallerNo.{CallerNo}
 use Rattle.net_base.specs.declared.numbers.ConnNo.{ConnNo}
 use Rattle.net_base.specs.declared.numbers.ExchangeNo.{ExchangeNo}
 use Rattle.net_base.specs.declared.numbers.Moment.{Moment}
-use Rattle.net_base.specs.declared.target.Target.{Target}
+use Rattle.net_base.specs.declared.numbers.StreamNo.{StreamNo}
 use Rattle.net_base.specs.declared.target.Via.{Via}
 use Rattle.net_base.specs.declared.target.Via.TheVariants as via
 use Rattle.partition_keys.specs.declared.group.GroupKey.{GroupKey}
-use Rattle.model_changes.specs.Connections.{after_shutdown}
+use Rattle.model_changes.specs.Connections.{closing, gone, after_shutdown}
 use Rattle.model_laws.proofs.CourseLemmas.{IsKept, state_later, state_each, state_after}
 use Rattle.model_laws.proofs.FitLemmas.{IsFit, closes, fit_stand}
 use Rattle.model_laws.proofs.ReleaseLemmas.{HasEnded, releases_act}
-use Rattle.model_laws.proofs.StayLemmas.{is_down, down_after_shutdown, TurnsAt}
+use Rattle.model_laws.proofs.StayLemmas.{is_down, TurnsAt}
 use Rattle.model_laws.proofs.TurnLemmas.{IsClaim, not_shut, none_waits, turned_act}
 use Rattle.model_laws.specs.Courses.{state_at, Comes}
 use Rattle.model_laws.specs.EndLaws.{BeginsNothing, NothingBeginsAfterShutdown, NothingIsOpenAfterShutdown}
 use Rattle.model_laws.specs.Sound.{IsShutDown}
+use Rattle.model_histories.proofs.CauseLemmas.{by_identity, by_open, by_alt_seen, by_closed, by_want}
 use Rattle.model_histories.proofs.EditLemmas.{map_at}
 use Rattle.model_histories.specs.Histories.{opening, MayStand}
 use Rattle.model_histories.specs.Replies.{IsSubmitReply, IsPreconnectReply}
-use Rattle.net_base.specs.declared.numbers.StreamNo.{StreamNo}
-use Rattle.model_steps.specs.After.{noted, after_submit, after_cancel, after_reprioritise, after_preconnect, after_resolved, after_network, after_shut, after_dial, after_orders, after_alt_seen, after_report, after_expire, after_lapse, after_assign, after_want_of, after_want, after_evict, sent_noted, after_act, after}
-use Rattle.model_steps.specs.Opened.{after_useless, is_useless, after_identity_of, after_open_of, after_open}
+use Rattle.model_steps.specs.After.{noted, after_submit, after_cancel, after_reprioritise, after_preconnect, after_resolved, after_network, after_shut, after_dial, after_orders, after_report, after_expire, after_lapse, after_assign, after_evict, sent_noted, after_act, after}
+use Rattle.model_steps.specs.Opened.{after_useless}
 use Rattle.model_steps.specs.Answered.{after_answered}
-use Rattle.model_steps.specs.Lost.{is_dial_failed, after_failed_dial, after_closed, after_lost}
+use Rattle.model_steps.specs.Lost.{after_lost, after_closed}
 use Rattle.model_steps.specs.Exchanges.{ended_by, ended_unless}
 use Rattle.model_authority.proofs.NumberLemmas.{value_and}
 use Rattle.model_authority.specs.Lists.{numbered}
-use Rattle.model_authority.proofs.PhaseLemmas.{excludes, or_else}
-use Rattle.model_authority.specs.Statuses.{has_ended, is_wanted, is_open, is_draining}
+use Rattle.model_authority.proofs.PhaseLemmas.{follows, excludes, or_else}
+use Rattle.model_authority.specs.Statuses.{has_ended, is_wanted, is_open, is_draining, is_closing, is_gone}
 use Rattle.model_authority.specs.Ways.{group_for}
 use Rattle.model_values.specs.declared.config.Config.{Config}
 use Rattle.model_values.specs.declared.entry.Act.{Act}
-use Rattle.model_values.specs.declared.entry.Act.TheVariants.{Submit, Cancel, Reprioritise, Preconnect, Resolved, Network, Tick, Shutdown, Dial, Orders, Reported, Closed, Expire, Lapse, Assign, Want, Evict}
+use Rattle.model_values.specs.declared.entry.Act.TheVariants.{Submit, Cancel, Reprioritise, Preconnect, Resolved, Shutdown, Dial, Reported, Closed, Assign, Want}
 use Rattle.model_values.specs.declared.entry.Entry.{Entry}
+use Rattle.model_values.specs.declared.order.OrderMark.TheVariants as mark
 use Rattle.model_values.specs.declared.outcome.Outcome.{Outcome}
 use Rattle.model_values.specs.declared.outcome.Outcome.TheVariants as outcome
 use Rattle.model_values.specs.declared.reply.CancelReply.TheVariants as cancel
@@ -53,6 +54,7 @@ use Rattle.model_values.specs.declared.state.AbstractPool.{AbstractPool}
 use Rattle.model_values.specs.declared.state.Connection.{Connection}
 use Rattle.model_values.specs.declared.state.Exchange.{Exchange}
 use Rattle.model_values.specs.declared.state.Phase.{Phase}
+use Rattle.model_values.specs.declared.state.Phase.TheVariants.{Closing}
 
 -- ---- the mark of the shutdown, which only the shutdown sets
 
@@ -63,85 +65,31 @@ still_useless : (s : AbstractPool) (g : GroupKey) (wanted_for : Option ExchangeN
 still_useless s g wanted_for how via.Direct = refl
 still_useless s g wanted_for how (via.Alternative p) = refl
 
-still_identity : (s : AbstractPool) (conn : ConnNo) (g : GroupKey) (wanted_for : Option ExchangeNo) (id : Identity) → IsStill s (after_identity_of s conn g wanted_for id)
-still_identity s conn g wanted_for id =
-    let useless = after_useless s g wanted_for (outcome.Identity conn) g.target.via in
-    cond_both (is_useless s g id) useless s (IsStill s) (λ u. still_useless s g wanted_for (outcome.Identity conn) g.target.via) (λ u. refl)
-
-still_open : (s : AbstractPool) (conn : ConnNo) (id : Identity) → IsStill s (after_open s conn id)
-unfolding after_open
-still_open s conn id = by (numbered conn.0 s.connections)
-  where
-    by : (o : Option Connection) → IsStill s (after_open_of s conn id o)
-    by None = refl
-    by (Some c) = still_identity s conn c.group c.wanted_for id
-
 still_report : (s : AbstractPool) (conn : ConnNo) (r : Report) → IsStill s (after_report s conn r)
 unfolding after_answered
-still_report s conn (report.Opened id) = still_open s conn id
-still_report s conn (report.Limit n) = refl
-still_report s conn (report.Answered r response keep alt proof) = refl
-still_report s conn (report.Refused r) = refl
-still_report s conn (report.Reset r code) = refl
-still_report s conn (report.TooLarge r) = refl
-still_report s conn (report.StreamClosed r) = refl
-still_report s conn (report.Goaway last) = refl
-still_report s conn (report.AltSeen origin alt) = by (numbered conn.0 s.connections)
-  where
-    by : (o : Option Connection) → IsStill s (after_alt_seen s origin alt o)
-    by None = refl
-    by (Some c) = refl
+still_report s conn (report.Opened id) =
+    by_open (IsStill s) s conn id
+    (λ c. by_identity (IsStill s) s conn c.group c.wanted_for id (still_useless s c.group c.wanted_for (outcome.Identity conn) c.group.target.via) refl) refl
+still_report s conn (report.AltSeen origin alt) = by_alt_seen (IsStill s) s conn origin alt (λ c. refl) refl
+still_report s conn _ = refl
 
-still_closed : (s : AbstractPool) (conn : ConnNo) (c : EndCause) (heard : List StreamNo) → IsStill s (after_closed s conn c heard)
-unfolding after_closed
-still_closed s conn c heard =
-    let left : AbstractPool = after_lost s conn c heard in
-    cond_both (is_dial_failed c) (after_failed_dial left conn (numbered conn.0 s.connections)) left (IsStill s) (λ f. by (numbered conn.0 s.connections)) (λ f. refl)
-  where
-    by : (o : Option Connection) → IsStill s (after_failed_dial (after_lost s conn c heard) conn o)
-    by None = refl
-    by (Some x) = still_useless (after_lost s conn c heard) x.group x.wanted_for (outcome.DialFault conn) x.group.target.via
-
-still_want : (s : AbstractPool) (e : ExchangeNo) (t : Target) → IsStill s (after_want s e t)
-unfolding after_want
-still_want s e t = by (numbered e.0 s.exchanges)
-  where
-    by : (o : Option Exchange) → IsStill s (after_want_of s e t o)
-    by None = refl
-    by (Some x) = refl
+still_closed : (s : AbstractPool) (conn : ConnNo) (cause : EndCause) (heard : List StreamNo) → IsStill s (after_closed s conn cause heard)
+still_closed s conn cause heard =
+    by_closed (IsStill s) s conn cause heard (λ c. still_useless (after_lost s conn cause heard) c.group c.wanted_for (outcome.DialFault conn) c.group.target.via) refl
 
 -- the act leaves the mark as it is, or is the shutdown
 shut_act : (s : AbstractPool) (who : CallerNo) (act : Act) → IsStill s (after_act s who act) ⊎ (act ≡ Shutdown shut_reply.Noted)
 unfolding after_submit after_cancel after_reprioritise after_preconnect after_resolved after_network after_shut after_dial after_orders after_expire after_lapse after_assign after_evict
-shut_act s who (Submit ask (submit.Closed place)) = inl refl
-shut_act s who (Submit ask submit.BadProbe) = inl refl
-shut_act s who (Submit ask (submit.SubmissionsFull n)) = inl refl
 shut_act s who (Submit ask (submit.Accepted e)) = inl refl
-shut_act s who (Cancel e cancel.Unknown) = inl refl
-shut_act s who (Cancel e cancel.Ended) = inl refl
 shut_act s who (Cancel e cancel.Cancelled) = inl refl
-shut_act s who (Reprioritise e urgency change.Unknown) = inl refl
-shut_act s who (Reprioritise e urgency change.Ended) = inl refl
 shut_act s who (Reprioritise e urgency change.Changed) = inl refl
-shut_act s who (Preconnect key credentials origin count (preconnect.Closed place)) = inl refl
-shut_act s who (Preconnect key credentials origin count (preconnect.NoRoom total in_group)) = inl refl
 shut_act s who (Preconnect key credentials origin count (preconnect.Opening k)) = inl refl
-shut_act s who (Resolved key host addresses (resolved.Closed place)) = inl refl
-shut_act s who (Resolved key host addresses (resolved.TooMany n)) = inl refl
 shut_act s who (Resolved key host addresses resolved.Noted) = inl refl
-shut_act s who Network = inl refl
-shut_act s who Tick = inl refl
-shut_act s who (Shutdown (shut_reply.Closed place)) = inl refl
 shut_act s who (Shutdown shut_reply.Noted) = inr refl
-shut_act s who (Dial c target) = inl refl
-shut_act s who (Orders c sent orders) = inl refl
 shut_act s who (Reported c sent report) = inl (still_report (sent_noted s c sent) c report)
 shut_act s who (Closed c sent cause heard) = inl (still_closed (sent_noted s c sent) c cause heard)
-shut_act s who (Expire e) = inl refl
-shut_act s who (Lapse e) = inl refl
-shut_act s who (Assign e c r by) = inl refl
-shut_act s who (Want e c t) = inl (still_want s e t)
-shut_act s who (Evict c) = inl refl
+shut_act s who (Want e c t) = inl (by_want (IsStill s) s e t (λ x. refl) refl)
+shut_act s who _ = inl refl
 
 set_by_shutdown : (s : AbstractPool) (who : CallerNo) → IsSome (after_act s who (Shutdown shut_reply.Noted)).shutdown
 unfolding after_shut
@@ -171,6 +119,22 @@ down_from : (p : Phase) → (¬ IsTrue (is_wanted p)) × (¬ IsTrue (is_open p))
 down_from p h =
     or_else is_wanted (λ q. is_open q || is_draining q) is_down refl p (false_from_ne_true (is_wanted p) h.0)
     (or_from (is_open p) (is_draining p) (false_from_ne_true (is_open p) h.1) (false_from_ne_true (is_draining p) h.2))
+
+down_closing : (c : Connection) → is_down (closing c).phase ≡ true
+unfolding closing
+down_closing c =
+    cond_both (is_closing c.phase || is_gone c.phase) c (record c { phase = Closing; orders = mark.Close ∷ [] }) (λ (x : Connection). is_down x.phase ≡ true)
+    (λ t. follows (λ p. is_closing p || is_gone p) is_down refl c.phase t) (λ f. refl)
+
+-- a shutdown leaves each connection down
+down_after_shutdown : (c : Connection) → is_down (after_shutdown c).phase ≡ true
+unfolding after_shutdown
+down_after_shutdown c =
+    let up : Connection = if is_open c.phase || is_draining c.phase then closing c else c in
+    let down : Connection → Type 0 = λ x. is_down x.phase ≡ true in
+    cond_both (is_wanted c.phase) (gone c) up down (λ w. refl)
+    (λ f. cond_both (is_open c.phase || is_draining c.phase) (closing c) c down (λ t. down_closing c)
+    (λ g. or_else is_wanted (λ p. is_open p || is_draining p) is_down refl c.phase f g))
 
 -- by the number of each
 record AllOver (s : AbstractPool) : Type 0 where
@@ -264,24 +228,13 @@ is_none s claim none = both_ways true (not_shut true s claim none) refl
 
 begins_nothing : (s : AbstractPool) (act : Act) → IsClaim true s → IsFit s act → BeginsNothing act
 begins_nothing s (Submit ask reply) claim fit = λ x e. is_none s claim (subst (IsSubmitReply s ask) e fit).0
-begins_nothing s (Cancel x reply) claim fit = tt
-begins_nothing s (Reprioritise x urgency reply) claim fit = tt
 begins_nothing s (Preconnect key credentials origin count reply) claim fit = λ k e. is_none s claim (subst (IsPreconnectReply s (group_for s key credentials origin) count) e fit).0
-begins_nothing s (Resolved key host addresses reply) claim fit = tt
-begins_nothing s Network claim fit = tt
-begins_nothing s Tick claim fit = tt
-begins_nothing s (Shutdown reply) claim fit = tt
 begins_nothing s (Dial c target) claim fit =
     let v = value_and (numbered c.0 s.connections) (λ x. IsTrue (is_wanted x.phase)) fit in
     ((claim refl).1.closed c.0 v.0 v.1).0 v.2
-begins_nothing s (Orders c sent orders) claim fit = tt
-begins_nothing s (Reported c sent report) claim fit = tt
-begins_nothing s (Closed c sent cause heard) claim fit = tt
-begins_nothing s (Expire x) claim fit = tt
-begins_nothing s (Lapse x) claim fit = tt
 begins_nothing s (Assign x c r by) claim fit = both_ways true (none_waits true s x claim fit.0) refl
 begins_nothing s (Want x c t) claim fit = both_ways true (none_waits true s x claim fit) refl
-begins_nothing s (Evict c) claim fit = tt
+begins_nothing s _ claim fit = tt
 
 claim_noted : (s : AbstractPool) (m : Moment) → IsSome s.shutdown × IsShutDown s → IsClaim true (noted s m)
 unfolding noted

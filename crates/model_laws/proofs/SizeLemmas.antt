@@ -1,5 +1,5 @@
 -- The exchanges and the connections of a pool stay as many as there may be, behind each entry that may stand.
-use Rattle.std.proofs.Common.{map, ◌≡◌, ◌<◌, ◌≤◌, ◌≢◌, ◌∙◌, ℕ, List, true, false, Option, Some, None, inl, inr, refl, sym, subst, arith, is_some, length, replicate, slice_get}
+use Rattle.std.proofs.Common.{◌≡◌, ◌<◌, ◌≤◌, ◌≢◌, ◌∙◌, ℕ, List, true, false, Option, Some, None, inl, inr, refl, sym, subst, arith, length, replicate, slice_get}
 use Rattle.std.specs.Prelude.{◌-◌, ◌==◌, ◌&&◌, not}
 use Rattle.std.proofs.lemmas.Bool.{cond_both, and_parts, ltb-true}
 use Rattle.std.proofs.lemmas.List.{length-map, length-append, length-replicate, length-set, length_push}
@@ -9,35 +9,38 @@ use Rattle.net_base.specs.declared.numbers.CallerNo.{CallerNo}
 use Rattle.net_base.specs.declared.numbers.ConnNo.{ConnNo}
 use Rattle.net_base.specs.declared.numbers.ExchangeNo.{ExchangeNo}
 use Rattle.net_base.specs.declared.numbers.Moment.{Moment}
+use Rattle.net_base.specs.declared.numbers.StreamNo.{StreamNo}
 use Rattle.net_base.specs.declared.target.Target.{Target}
 use Rattle.net_base.specs.declared.target.Via.{Via}
 use Rattle.net_base.specs.declared.target.Via.TheVariants as via
 use Rattle.partition_keys.specs.declared.group.GroupKey.{GroupKey}
-use Rattle.model_changes.specs.Connections.{closing, without_stream, without_start, without_exchange, new_connection, dialing_by, after_opened, with_start, with_taken, with_limit, after_large_answer, going_away, gone, after_shutdown, with_sent}
+use Rattle.model_changes.specs.Connections.{new_connection}
+use Rattle.model_laws.proofs.FitLemmas.{IsFit, fit_stand}
+use Rattle.model_laws.proofs.PresentLemmas.{adds_act, length_adds}
 use Rattle.model_laws.proofs.RoomLemmas.{plan_within}
+use Rattle.model_histories.proofs.CauseLemmas.{by_identity, by_open, by_alt_seen, by_closed, by_want}
+use Rattle.model_histories.proofs.EffectLemmas.{IsAdding}
 use Rattle.model_histories.proofs.RunLemmas.{config-after}
 use Rattle.model_histories.specs.Histories.{opening, MayStand}
-use Rattle.model_histories.specs.Legal.{IsReply, IsLegal}
+use Rattle.model_histories.specs.Legal.{IsReply}
 use Rattle.model_histories.specs.Replies.{IsSubmitReply, IsPreconnectReply}
 use Rattle.model_settling.specs.Counts.{openings_of}
 use Rattle.model_settling.specs.Room.{is_eligible, expects_h2, has_open_h2, has_numbers, is_total_full, has_room_in, has_room_but_total, has_room, room_left, planned}
 use Rattle.model_settling.specs.Settling.{IsDue, IsWant, can_open}
-use Rattle.net_base.specs.declared.numbers.StreamNo.{StreamNo}
-use Rattle.model_steps.specs.After.{noted, after_submit, released_lease, released_by, released, after_cancel, after_reprioritise, after_preconnect, after_resolved, after_network, after_shut, after_dial, after_orders, after_alt_seen, after_report, after_expire, after_lapse, after_assign, wanted_connection, after_want_of, after_want, after_evict, sent_noted, after_act, after}
-use Rattle.model_steps.specs.Opened.{ended_for, after_useless, is_useless, after_identity_of, after_open_of, after_open}
-use Rattle.model_steps.specs.Answered.{answered, after_answered, answered_connection, lease_at}
-use Rattle.model_steps.specs.Lost.{lost, is_dial_failed, after_failed_dial, after_closed, after_lost}
+use Rattle.model_steps.specs.Answered.{answered, after_answered}
 use Rattle.model_steps.specs.Goaway.{left_out}
+use Rattle.model_steps.specs.Lost.{lost, after_lost, after_closed}
+use Rattle.model_steps.specs.Opened.{ended_for, after_useless}
 use Rattle.model_steps.specs.StreamEnds.{refused, ended_at}
+use Rattle.model_steps.specs.After.{noted, after_submit, after_cancel, after_reprioritise, after_preconnect, after_resolved, after_network, after_shut, after_dial, after_orders, after_report, after_expire, after_lapse, after_assign, wanted_connection, after_want_of, after_want, after_evict, sent_noted, after_act, after}
 use Rattle.model_steps.specs.Exchanges.{new_exchange, with_status, ended_by, with_urgency, timed_out, ended_unless, ended_if_waiting, handed_by}
 use Rattle.model_authority.proofs.NumberLemmas.{passing}
-use Rattle.model_authority.specs.Lists.{numbered, with_item, edit}
+use Rattle.model_authority.specs.Lists.{with_item, edit}
 use Rattle.model_authority.specs.Ways.{group_of, group_for}
 use Rattle.model_values.specs.declared.config.Config.{Config}
 use Rattle.model_values.specs.declared.entry.Act.{Act}
-use Rattle.model_values.specs.declared.entry.Act.TheVariants.{Submit, Cancel, Reprioritise, Preconnect, Resolved, Network, Tick, Shutdown, Dial, Orders, Reported, Closed, Expire, Lapse, Assign, Want, Evict}
+use Rattle.model_values.specs.declared.entry.Act.TheVariants.{Submit, Cancel, Reprioritise, Preconnect, Resolved, Shutdown, Orders, Reported, Closed, Expire, Lapse, Assign, Want}
 use Rattle.model_values.specs.declared.entry.Entry.{Entry}
-use Rattle.model_values.specs.declared.order.OrderMark.{OrderMark}
 use Rattle.model_values.specs.declared.outcome.Outcome.{Outcome}
 use Rattle.model_values.specs.declared.outcome.Outcome.TheVariants as outcome
 use Rattle.model_values.specs.declared.reply.CancelReply.TheVariants as cancel
@@ -53,8 +56,7 @@ use Rattle.model_values.specs.declared.report.Report.TheVariants as report
 use Rattle.model_values.specs.declared.state.AbstractPool.{AbstractPool}
 use Rattle.model_values.specs.declared.state.Connection.{Connection}
 use Rattle.model_values.specs.declared.state.Exchange.{Exchange}
-use Rattle.model_values.specs.declared.state.Status.{Status}
-use Rattle.model_values.specs.declared.state.Status.TheVariants.{Waiting, Leased, Ended}
+use Rattle.model_values.specs.declared.state.Status.TheVariants.{Leased}
 use Rattle.model_values.specs.declared.submission.Submission.{Submission}
 
 -- ---- lists that stay as long as they are
@@ -69,93 +71,59 @@ length_edit number f xs =
     cond_both (number == 0) xs (with_item xs (number - 1) f (slice_get xs (number - 1))) (λ ys. length ys ≡ length xs)
     (λ first. refl) (λ later. length_item xs (number - 1) f (slice_get xs (number - 1)))
 
-length_lease : (now : Moment) (status : Status) (cs : List Connection) → length (released_lease now status cs) ≡ length cs
-length_lease now Waiting cs = refl
-length_lease now (Leased c r by false) cs = length_edit c.0 (without_start now r) cs
-length_lease now (Leased c r by true) cs = length_edit c.0 (without_exchange r) cs
-length_lease now (Ended how) cs = refl
-
-length_released : (s : AbstractPool) (e : ExchangeNo) → length (released s e) ≡ length s.connections
-unfolding released
-length_released s e = by (numbered e.0 s.exchanges)
-  where
-    by : (o : Option Exchange) → length (released_by s.latest o s.connections) ≡ length s.connections
-    by None = refl
-    by (Some x) = length_lease s.latest x.status s.connections
-
 length_ended : (wanted_for : Option ExchangeNo) (how : Outcome) (es : List Exchange) → length (ended_for wanted_for how es) ≡ length es
 length_ended None how es = refl
 length_ended (Some e) how es = length_edit e.0 (ended_if_waiting how) es
 
--- ---- entries that add none
+-- ---- entries that add no exchange
 
--- the later pool has as many exchanges and as many connections
-abbrev AddsNothing : AbstractPool → AbstractPool → Type 0
-AddsNothing s t = (length t.exchanges ≡ length s.exchanges) × (length t.connections ≡ length s.connections)
+-- the later pool has as many exchanges
+abbrev AsMany : AbstractPool → AbstractPool → Type 0
+AsMany s t = length t.exchanges ≡ length s.exchanges
 
-nothing : (s : AbstractPool) → AddsNothing s s
-nothing s = (refl, refl)
+many_useless : (s : AbstractPool) (g : GroupKey) (wanted_for : Option ExchangeNo) (how : Outcome) (v : Via) → AsMany s (after_useless s g wanted_for how v)
+many_useless s g wanted_for how via.Direct = length_ended wanted_for how s.exchanges
+many_useless s g wanted_for how (via.Alternative p) = refl
 
-nothing_trans : (s t u : AbstractPool) → AddsNothing s t → AddsNothing t u → AddsNothing s u
-nothing_trans s t u first second = (second.0 ∙ first.0, second.1 ∙ first.1)
-
-nothing_sent : (s : AbstractPool) (c : ConnNo) (sent : ℕ) → AddsNothing s (sent_noted s c sent)
-nothing_sent s c sent = (refl, length_edit c.0 (with_sent sent) s.connections)
-
-nothing_leases : (s : AbstractPool) (conn : ConnNo) (f : Exchange → Exchange) (g : Connection → Connection) →
-    AddsNothing s (record s { exchanges = map f s.exchanges; connections = edit conn.0 g s.connections })
-nothing_leases s conn f g = (length-map s.exchanges f, length_edit conn.0 g s.connections)
-
-nothing_useless : (s : AbstractPool) (g : GroupKey) (wanted_for : Option ExchangeNo) (how : Outcome) (v : Via) → AddsNothing s (after_useless s g wanted_for how v)
-nothing_useless s g wanted_for how via.Direct = (length_ended wanted_for how s.exchanges, refl)
-nothing_useless s g wanted_for how (via.Alternative p) = nothing s
-
-nothing_identity : (s : AbstractPool) (conn : ConnNo) (g : GroupKey) (wanted_for : Option ExchangeNo) (id : Identity) → AddsNothing s (after_identity_of s conn g wanted_for id)
-nothing_identity s conn g wanted_for id =
-    cond_both (is_useless s g id) (after_useless s g wanted_for (outcome.Identity conn) g.target.via) s (AddsNothing s)
-    (λ u. nothing_useless s g wanted_for (outcome.Identity conn) g.target.via) (λ u. nothing s)
-
-nothing_open : (s : AbstractPool) (conn : ConnNo) (id : Identity) → AddsNothing s (after_open s conn id)
-unfolding after_open
-nothing_open s conn id = by (numbered conn.0 s.connections)
-  where
-    by : (o : Option Connection) → AddsNothing s (after_open_of s conn id o)
-    by None = nothing s
-    by (Some c) = ((nothing_identity s conn c.group c.wanted_for id).0, length_edit conn.0 (after_opened (is_some s.shutdown) s.latest id) s.connections)
-
-nothing_report : (s : AbstractPool) (conn : ConnNo) (r : Report) → AddsNothing s (after_report s conn r)
+many_report : (s : AbstractPool) (conn : ConnNo) (r : Report) → AsMany s (after_report s conn r)
 unfolding after_answered
-nothing_report s conn (report.Opened id) = nothing_open s conn id
-nothing_report s conn (report.Limit n) = (refl, length_edit conn.0 (with_limit n) s.connections)
-nothing_report s conn (report.Answered r response keep alt proof) =
-    (length-map s.exchanges (answered conn r response), length_edit conn.0 (answered_connection s.latest r response keep (lease_at s conn r)) s.connections)
-nothing_report s conn (report.Refused r) = nothing_leases s conn (refused conn r) (without_stream s.latest r)
-nothing_report s conn (report.Reset r code) = nothing_leases s conn (ended_at conn r (outcome.Reset code)) (without_stream s.latest r)
-nothing_report s conn (report.TooLarge r) = nothing_leases s conn (ended_at conn r outcome.TooLarge) (after_large_answer s.latest r)
-nothing_report s conn (report.StreamClosed r) = (refl, length_edit conn.0 (without_stream s.latest r) s.connections)
-nothing_report s conn (report.Goaway last) = nothing_leases s conn (left_out conn last) (going_away s.latest conn s.exchanges last)
-nothing_report s conn (report.AltSeen origin alt) = by (numbered conn.0 s.connections)
-  where
-    by : (o : Option Connection) → AddsNothing s (after_alt_seen s origin alt o)
-    by None = nothing s
-    by (Some c) = nothing s
+many_report s conn (report.Opened id) =
+    by_open (AsMany s) s conn id
+    (λ c. by_identity (AsMany s) s conn c.group c.wanted_for id (many_useless s c.group c.wanted_for (outcome.Identity conn) c.group.target.via) refl) refl
+many_report s conn (report.Answered r response keep alt proof) = length-map s.exchanges (answered conn r response)
+many_report s conn (report.Refused r) = length-map s.exchanges (refused conn r)
+many_report s conn (report.Reset r code) = length-map s.exchanges (ended_at conn r (outcome.Reset code))
+many_report s conn (report.TooLarge r) = length-map s.exchanges (ended_at conn r outcome.TooLarge)
+many_report s conn (report.Goaway last) = length-map s.exchanges (left_out conn last)
+many_report s conn (report.AltSeen origin alt) = by_alt_seen (AsMany s) s conn origin alt (λ c. refl) refl
+many_report s conn _ = refl
 
-nothing_closed : (s : AbstractPool) (conn : ConnNo) (end : EndCause) (heard : List StreamNo) → AddsNothing s (after_closed s conn end heard)
-unfolding after_closed
-nothing_closed s conn end heard =
-    cond_both (is_dial_failed end) (after_failed_dial (after_lost s conn end heard) conn (numbered conn.0 s.connections)) (after_lost s conn end heard) (AddsNothing s)
-    (λ f. by (numbered conn.0 s.connections)) (λ f. nothing_leases s conn (lost conn end heard) gone)
-  where
-    by : (o : Option Connection) → AddsNothing s (after_failed_dial (after_lost s conn end heard) conn o)
-    by None = nothing_leases s conn (lost conn end heard) gone
-    by (Some c) =
-        let left : AbstractPool = after_lost s conn end heard in
-        nothing_trans s left (after_useless left c.group c.wanted_for (outcome.DialFault conn) c.group.target.via) (nothing_leases s conn (lost conn end heard) gone)
-        (nothing_useless left c.group c.wanted_for (outcome.DialFault conn) c.group.target.via)
+many_closed : (s : AbstractPool) (conn : ConnNo) (end : EndCause) (heard : List StreamNo) → AsMany s (after_closed s conn end heard)
+many_closed s conn end heard =
+    let left : AbstractPool = after_lost s conn end heard in
+    let ended : AsMany s left = length-map s.exchanges (lost conn end heard) in
+    by_closed (AsMany s) s conn end heard (λ c. many_useless left c.group c.wanted_for (outcome.DialFault conn) c.group.target.via ∙ ended) ended
 
-nothing_orders : (s : AbstractPool) (c : ConnNo) (orders : List OrderMark) → AddsNothing s (after_orders s c orders)
-unfolding after_orders
-nothing_orders s c orders = (length-map s.exchanges (handed_by c orders), length_edit c.0 (with_taken orders) s.connections)
+abbrev IsSubmitting : Act → Type 0
+IsSubmitting (Submit ask reply) = Unit {0}
+IsSubmitting _ = ⊥
+
+many_act : (s : AbstractPool) (who : CallerNo) (act : Act) → (IsSubmitting act → ⊥) → AsMany s (after_act s who act)
+unfolding after_cancel after_reprioritise after_preconnect after_resolved after_network after_shut after_dial after_orders after_expire after_lapse after_assign after_evict
+many_act s who (Submit ask reply) none = absurd (none tt)
+many_act s who (Cancel e cancel.Cancelled) none = length_edit e.0 (ended_by outcome.Cancelled) s.exchanges
+many_act s who (Reprioritise e urgency change.Changed) none = length_edit e.0 (with_urgency urgency) s.exchanges
+many_act s who (Preconnect key credentials origin count (preconnect.Opening k)) none = refl
+many_act s who (Resolved key host addresses resolved.Noted) none = refl
+many_act s who (Shutdown shut.Noted) none = length-map s.exchanges (ended_unless outcome.PoolClosed)
+many_act s who (Orders c sent orders) none = length-map s.exchanges (handed_by c orders)
+many_act s who (Reported c sent r) none = many_report (sent_noted s c sent) c r
+many_act s who (Closed c sent end heard) none = many_closed (sent_noted s c sent) c end heard
+many_act s who (Expire e) none = length_edit e.0 timed_out s.exchanges
+many_act s who (Lapse e) none = length_edit e.0 (ended_by outcome.NoAlternative) s.exchanges
+many_act s who (Assign e c r way) none = length_edit e.0 (with_status (Leased c r way false)) s.exchanges
+many_act s who (Want e c t) none = by_want (AsMany s) s e t (λ x. refl) refl
+many_act s who _ none = refl
 
 -- ---- entries that add some
 
@@ -167,8 +135,11 @@ HasNumbers s = (length s.exchanges ≤ s.config.submissions) × (length s.connec
 abbrev AreEnough : AbstractPool → AbstractPool → Type 0
 AreEnough s t = (length t.exchanges ≤ s.config.submissions) × (length t.connections ≤ 2147483647)
 
-enough : (s t : AbstractPool) → AddsNothing s t → HasNumbers s → AreEnough s t
-enough s t adds has = (omega (arith, adds.0, has.0), omega (arith, adds.1, has.1))
+-- what adds neither an exchange nor a connection
+enough_other : (s : AbstractPool) (who : CallerNo) (act : Act) → IsFit s act → (IsSubmitting act → ⊥) → (IsAdding act → ⊥) → HasNumbers s → AreEnough s (after_act s who act)
+enough_other s who act fit none_submitted none_added has =
+    let t : AbstractPool = after_act s who act in
+    (omega (arith, many_act s who act none_submitted, has.0), omega (arith, length_adds s.connections t.connections (adds_act s who act fit none_added), has.1))
 
 -- an exchange is accepted where more may be submitted
 enough_submit : (s : AbstractPool) (who : CallerNo) (ask : Submission) (r : SubmitReply) → IsSubmitReply s ask r → HasNumbers s → AreEnough s (after_submit s who ask r)
@@ -220,76 +191,30 @@ enough_want s m e c t due has =
 -- ---- any entry that may stand
 
 -- what the pool does by itself
-enough_due : (s : AbstractPool) (m : Moment) (who : CallerNo) (act : Act) → IsDue s act → HasNumbers s → AreEnough s (after_act (noted s m) who act)
-unfolding after_expire after_lapse after_assign after_evict noted
-enough_due s m who (Submit ask reply) due has = absurd due
-enough_due s m who (Cancel e reply) due has = absurd due
-enough_due s m who (Reprioritise e urgency reply) due has = absurd due
-enough_due s m who (Preconnect key credentials origin count reply) due has = absurd due
-enough_due s m who (Resolved key host addresses reply) due has = absurd due
-enough_due s m who Network due has = absurd due
-enough_due s m who Tick due has = absurd due
-enough_due s m who (Shutdown reply) due has = absurd due
-enough_due s m who (Dial c target) due has = absurd due
-enough_due s m who (Orders c sent orders) due has = absurd due
-enough_due s m who (Reported c sent report) due has = absurd due
-enough_due s m who (Closed c sent cause heard) due has = absurd due
-enough_due s m who (Expire e) due has = enough s (after_expire (noted s m) e) (length_edit e.0 timed_out s.exchanges, length_released (noted s m) e) has
-enough_due s m who (Lapse e) due has = enough s (after_lapse (noted s m) e) (length_edit e.0 (ended_by outcome.NoAlternative) s.exchanges, refl) has
-enough_due s m who (Assign e c r way) due has =
-    enough s (after_assign (noted s m) e c r way)
-    (length_edit e.0 (with_status (Leased c r way false)) s.exchanges, length_edit c.0 (with_start s.config.last_stream e r) s.connections) has
-enough_due s m who (Want e c t) due has = enough_want s m e c t due has
-enough_due s m who (Evict c) due has = enough s (after_evict (noted s m) c) (refl, length_edit c.0 closing s.connections) has
+enough_due : (s : AbstractPool) (m : Moment) (who : CallerNo) (act : Act) → IsDue s act → IsFit (noted s m) act → HasNumbers s → AreEnough s (after_act (noted s m) who act)
+unfolding noted
+enough_due s m who (Submit ask reply) due fit has = absurd due
+enough_due s m who (Preconnect key credentials origin count reply) due fit has = absurd due
+enough_due s m who (Want e c t) due fit has = enough_want s m e c t due has
+enough_due s m who act due fit has = enough_other (noted s m) who act fit (λ submits. submits) (λ adds. adds) has
 
 -- what a call leaves
-enough_reply : (s : AbstractPool) (who : CallerNo) (act : Act) → IsReply s who act → HasNumbers s → AreEnough s (after_act s who act)
-unfolding after_cancel after_reprioritise after_resolved after_network after_shut after_dial
-enough_reply s who (Submit ask r) reply has = enough_submit s who ask r reply.2 has
-enough_reply s who (Cancel e cancel.Unknown) reply has = has
-enough_reply s who (Cancel e cancel.Ended) reply has = has
-enough_reply s who (Cancel e cancel.Cancelled) reply has = enough s (after_cancel s e cancel.Cancelled) (length_edit e.0 (ended_by outcome.Cancelled) s.exchanges, length_released s e) has
-enough_reply s who (Reprioritise e urgency change.Unknown) reply has = has
-enough_reply s who (Reprioritise e urgency change.Ended) reply has = has
-enough_reply s who (Reprioritise e urgency change.Changed) reply has =
-    enough s (after_reprioritise s e urgency change.Changed) (length_edit e.0 (with_urgency urgency) s.exchanges, refl) has
-enough_reply s who (Preconnect key credentials origin count r) reply has = enough_preconnect s (group_for s key credentials origin) count r reply.2 has
-enough_reply s who (Resolved key host addresses (resolved.Closed place)) reply has = has
-enough_reply s who (Resolved key host addresses (resolved.TooMany n)) reply has = has
-enough_reply s who (Resolved key host addresses resolved.Noted) reply has = has
-enough_reply s who Network reply has = has
-enough_reply s who Tick reply has = has
-enough_reply s who (Shutdown (shut.Closed place)) reply has = has
-enough_reply s who (Shutdown shut.Noted) reply has =
-    enough s (after_shut s shut.Noted) (length-map s.exchanges (ended_unless outcome.PoolClosed), length-map s.connections after_shutdown) has
-enough_reply s who (Dial c target) reply has = enough s (after_dial s who c) (refl, length_edit c.0 (dialing_by who) s.connections) has
-enough_reply s who (Orders c sent orders) reply has =
-    let t : AbstractPool = sent_noted s c sent in
-    enough s (after_orders t c orders) (nothing_trans s t (after_orders t c orders) (nothing_sent s c sent) (nothing_orders t c orders)) has
-enough_reply s who (Reported c sent r) reply has =
-    let t : AbstractPool = sent_noted s c sent in
-    let u : AbstractPool = after_report t c r in
-    enough s u (nothing_trans s t u (nothing_sent s c sent) (nothing_report t c r)) has
-enough_reply s who (Closed c sent end heard) reply has =
-    let t : AbstractPool = sent_noted s c sent in
-    let u : AbstractPool = after_closed t c end heard in
-    enough s u (nothing_trans s t u (nothing_sent s c sent) (nothing_closed t c end heard)) has
-enough_reply s who (Expire e) reply has = absurd reply
-enough_reply s who (Lapse e) reply has = absurd reply
-enough_reply s who (Assign e c r way) reply has = absurd reply
-enough_reply s who (Want e c t) reply has = absurd reply
-enough_reply s who (Evict c) reply has = absurd reply
+enough_reply : (s : AbstractPool) (who : CallerNo) (act : Act) → IsReply s who act → IsFit s act → HasNumbers s → AreEnough s (after_act s who act)
+enough_reply s who (Submit ask r) reply fit has = enough_submit s who ask r reply.2 has
+enough_reply s who (Preconnect key credentials origin count r) reply fit has = enough_preconnect s (group_for s key credentials origin) count r reply.2 has
+enough_reply s who (Want e c t) reply fit has = absurd reply
+enough_reply s who act reply fit has = enough_other s who act fit (λ submits. submits) (λ adds. adds) has
 
-enough_legal : (s : AbstractPool) (e : Entry) → IsLegal s e → HasNumbers s → AreEnough s (after s e)
+enough_legal : (s : AbstractPool) (e : Entry) → MayStand s e → HasNumbers s → AreEnough s (after s e)
 unfolding after noted
-enough_legal s e legal has = elim legal [
-  | inl pools ↦ enough_due s e.moment e.who e.act pools.due has
-  | inr calls ↦ enough_reply (noted s e.moment) e.who e.act calls.reply has
+enough_legal s e stand has = elim stand.legal [
+  | inl pools ↦ enough_due s e.moment e.who e.act pools.due (fit_stand s e stand) has
+  | inr calls ↦ enough_reply (noted s e.moment) e.who e.act calls.reply (fit_stand s e stand) has
 ]
 
 pub numbers_after : (s : AbstractPool) (e : Entry) → MayStand s e → HasNumbers s → HasNumbers (after s e)
 numbers_after s e stand has =
-    let left = enough_legal s e stand.legal has in
+    let left = enough_legal s e stand has in
     (subst (λ (config : Config). length (after s e).exchanges ≤ config.submissions) (sym (config-after s e)) left.0, left.1)
 
 pub numbers_opening : (config : Config) → HasNumbers (opening config)

@@ -1,25 +1,17 @@
 -- What a change of a connection leaves of the streams that were started on it, and which streams orders start.
-use Rattle.std.proofs.Common.{◌≡◌, ℕ, List, [], ◌∷◌, ◌++◌, Option, Some, None, Bool, true, false, inl, inr, refl, sym, ap, ◌∙◌, arith, filter, Contains}
-use Rattle.std.specs.Prelude.{◌==◌, ◌&&◌, ◌||◌, not, if◌then◌else◌}
+use Rattle.std.proofs.Common.{[], ◌≡◌, ℕ, List, ◌∷◌, Some, Bool, true, inl, inr, refl, sym, ap, arith, Contains}
+use Rattle.std.specs.Prelude.{◌==◌, ◌&&◌, not}
 use Rattle.std.specs.List.{list_any}
 use Rattle.std.proofs.lemmas.Bool.{or_cases, or_left, or_right, cond_both, eq-eqb, eqb-true}
 use Rattle.std.proofs.lemmas.List.Elements.{Contains-append_right, Contains-append_cases, Contains-push_cases}
 use Rattle.net_base.specs.declared.identity.Identity.{Identity}
-use Rattle.net_base.specs.declared.numbers.ConnNo.{ConnNo}
-use Rattle.net_base.specs.declared.numbers.ExchangeNo.{ExchangeNo}
 use Rattle.net_base.specs.declared.numbers.Moment.{Moment}
 use Rattle.net_base.specs.declared.numbers.StreamNo.{StreamNo}
-use Rattle.model_changes.specs.Connections.{is_start, is_start_of, streams_started, closing, idle_from, has_run_out, idle_if_run_out, other_streams, without_stream, without_start, without_exchange, suits, opened_with, refused_with, after_opened, with_start, kept_open, without_reset, after_answer, excluding, after_large_answer, streams_left, draining, draining_or_closing, going_away, gone, after_shutdown}
-use Rattle.net_base.specs.declared.response.Response.{Response}
-use Rattle.model_steps.specs.Answered.{lease_at, is_misdirected, excluding_misdirected, answered_connection}
-use Rattle.model_authority.specs.Lists.{is_nil}
-use Rattle.model_authority.specs.Statuses.{is_wanted, is_open, is_draining, is_closing, is_gone, speaks_h2}
+use Rattle.model_histories.proofs.EffectLemmas.{Lasting, Leaves, leaves_closing}
+use Rattle.model_changes.specs.Connections.{is_start_of, streams_started, closing, suits, opened_with, refused_with, after_opened}
 use Rattle.model_values.specs.declared.order.OrderMark.{OrderMark}
 use Rattle.model_values.specs.declared.order.OrderMark.TheVariants as mark
-use Rattle.model_values.specs.declared.state.AbstractPool.{AbstractPool}
 use Rattle.model_values.specs.declared.state.Connection.{Connection}
-use Rattle.model_values.specs.declared.state.Exchange.{Exchange}
-use Rattle.model_values.specs.declared.state.Phase.TheVariants.{Draining, Closing}
 
 -- ---- the streams of orders
 
@@ -54,83 +46,17 @@ start_there r (mark.Start e t ∷ orders) h = elim (or_cases (r.0 == t.0) (list_
 start_there r (mark.Reset t ∷ orders) h = start_there r orders h
 start_there r (mark.Close ∷ orders) h = start_there r orders h
 
--- ---- one connection, by any change but the taking of its orders
-
--- its started streams stay as they are
-abbrev pub Keeps : (Connection → Connection) → Type 0
-Keeps f = (c : Connection) → (f c).started ≡ c.started
+-- ---- one connection
 
 -- one that is so related to it has the same started streams
 abbrev pub Like : Connection → Connection → Type 0
 Like x y = y.started ≡ x.started
 
-pub keeps_closing : Keeps closing
-unfolding closing
-keeps_closing c = cond_both (is_closing c.phase || is_gone c.phase) c (record c { phase = Closing; orders = mark.Close ∷ [] }) (Like c) (λ t. refl) (λ f. refl)
+pub like_leaves : (x y : Connection) → Leaves x y → Like x y
+like_leaves x y k = ap (λ (l : Lasting). l.started) k.lasts
 
-keeps_idle_from : (now : Moment) → Keeps (idle_from now)
-unfolding idle_from
-keeps_idle_from now c =
-    let idle : Connection = record c { idle_since = now } in
-    cond_both (is_draining c.phase) (closing idle) idle (Like c) (λ t. keeps_closing idle) (λ f. refl)
-
-keeps_run_out : (now : Moment) (old : Connection) → Keeps (idle_if_run_out now old)
-unfolding idle_if_run_out
-keeps_run_out now old c = cond_both (has_run_out old c) (idle_from now c) c (Like c) (λ t. keeps_idle_from now c) (λ f. refl)
-
-pub keeps_without_stream : (now : Moment) (r : StreamNo) → Keeps (without_stream now r)
-unfolding without_stream
-keeps_without_stream now r c = keeps_run_out now c (record c { live = other_streams r c.live })
-
-pub keeps_without_start : (now : Moment) (r : StreamNo) → Keeps (without_start now r)
-unfolding without_start
-keeps_without_start now r c = keeps_run_out now c (record c { live = other_streams r c.live; orders = filter (λ m. not (is_start_of r m)) c.orders })
-
-pub keeps_without_exchange : (r : StreamNo) → Keeps (without_exchange r)
-unfolding without_exchange
-keeps_without_exchange r c = cond_both (speaks_h2 c) (record c { orders = c.orders ++ mark.Reset r ∷ [] }) (closing c) (Like c) (λ t. refl) (λ f. keeps_closing c)
-
-keeps_kept_open : (keep : Bool) → Keeps (kept_open keep)
-keeps_kept_open true c = refl
-keeps_kept_open false c = keeps_closing c
-
-keeps_after_answer : (now : Moment) (r : StreamNo) (keep : Bool) → Keeps (after_answer now r keep)
-unfolding after_answer
-keeps_after_answer now r keep c = keeps_kept_open keep (without_stream now r (without_reset r c)) ∙ keeps_without_stream now r (without_reset r c)
-
-keeps_excluding : (response : Response) (lease : Option Exchange) → Keeps (excluding_misdirected response lease)
-keeps_excluding response None c = refl
-keeps_excluding response (Some e) c = cond_both (is_misdirected response e) (excluding e.ask.request.origin c) c (Like c) (λ t. refl) (λ f. refl)
-
-pub keeps_answered : (s : AbstractPool) (conn : ConnNo) (r : StreamNo) (response : Response) (keep : Bool) → Keeps (answered_connection s.latest r response keep (lease_at s conn r))
-keeps_answered s conn r response keep c = keeps_after_answer s.latest r keep (excluding_misdirected response (lease_at s conn r) c) ∙ keeps_excluding response (lease_at s conn r) c
-
-pub keeps_after_too_large : (now : Moment) (r : StreamNo) → Keeps (after_large_answer now r)
-unfolding after_large_answer
-keeps_after_too_large now r c = keeps_kept_open (speaks_h2 c) (without_stream now r c) ∙ keeps_without_stream now r c
-
-keeps_drained : Keeps draining_or_closing
-keeps_drained c =
-    cond_both (is_nil c.live) (closing c) (draining c) (Like c) (λ t. keeps_closing c)
-    (λ f. cond_both (is_open c.phase) (record c { phase = Draining }) c (Like c) (λ t. refl) (λ g. refl))
-
-pub keeps_after_goaway : (now : Moment) (conn : ConnNo) (es : List Exchange) (last : StreamNo) → Keeps (going_away now conn es last)
-unfolding going_away
-keeps_after_goaway now conn es last c =
-    let less : Connection = record c { live = streams_left conn es last c.live; orders = filter (λ m. not (is_start m)) c.orders } in
-    keeps_drained (idle_if_run_out now c less) ∙ keeps_run_out now c less
-
-pub keeps_after_opened : (is_shut : Bool) (now : Moment) (id : Identity) → Keeps (after_opened is_shut now id)
+pub like_opened : (is_shut : Bool) (now : Moment) (id : Identity) (c : Connection) → Like c (after_opened is_shut now id c)
 unfolding after_opened
-keeps_after_opened is_shut now id c =
-    cond_both (not is_shut && suits c.group id) (opened_with now id c) (refused_with id c) (Like c) (λ t. refl) (λ f. keeps_closing (record c { identity = Some id }))
-
-pub keeps_with_start : (last : ℕ) (e : ExchangeNo) (r : StreamNo) → Keeps (with_start last e r)
-unfolding with_start
-keeps_with_start last e r c = refl
-
-pub keeps_after_shutdown : Keeps after_shutdown
-unfolding after_shutdown
-keeps_after_shutdown c =
-    let up : Connection = if is_open c.phase || is_draining c.phase then closing c else c in
-    cond_both (is_wanted c.phase) (gone c) up (Like c) (λ w. refl) (λ f. cond_both (is_open c.phase || is_draining c.phase) (closing c) c (Like c) (λ t. keeps_closing c) (λ g. refl))
+like_opened is_shut now id c =
+    let shown : Connection = record c { identity = Some id } in
+    cond_both (not is_shut && suits c.group id) (opened_with now id c) (refused_with id c) (Like c) (λ t. refl) (λ f. like_leaves shown (closing shown) (leaves_closing shown))
