@@ -7,7 +7,7 @@ use Rattle.model_laws.proofs.AssignedLemmas.{usable_parts}
 use Rattle.model_laws.proofs.FitLemmas.{same_item}
 use Rattle.model_laws.proofs.OrderlySteps.{orderly_leaves, orderly_sent, orderly_gone, orderly_new, orderly_dialing, orderly_after_opened, orderly_with_start, orderly_with_taken}
 use Rattle.model_laws.proofs.TurnLemmas.{at_item}
-use Rattle.model_laws.specs.Sound.{IsOrderly}
+use Rattle.model_laws.specs.Sound.{HasStreamsInOrder}
 use Rattle.model_histories.proofs.EditLemmas.{none_numbered}
 use Rattle.model_histories.proofs.EffectLemmas.{IsNew, IsReported, conn_of, Changes, effect_at}
 use Rattle.model_histories.proofs.OwnLemmas.{IsReportedIn, reported_in}
@@ -31,13 +31,13 @@ use Rattle.model_values.specs.declared.state.Connection.{Connection}
 
 -- each connection is orderly
 abbrev pub AreOrderly : AbstractPool → Type 0
-AreOrderly s = (number : ℕ) (y : Connection) → numbered number s.connections ≡ Some y → IsOrderly s.config y
+AreOrderly s = (number : ℕ) (y : Connection) → numbered number s.connections ≡ Some y → HasStreamsInOrder s.config y
 
 -- ---- lists of connections
 
 abbrev OrderlyAt : Config → Option Connection → Type 0
 OrderlyAt config None = Unit {0}
-OrderlyAt config (Some y) = IsOrderly config y
+OrderlyAt config (Some y) = HasStreamsInOrder config y
 
 -- one that is orderly stays so, and a further one is orderly
 abbrev OrderlyStays : Config → Option Connection → Option Connection → Type 0
@@ -57,24 +57,24 @@ Asks s (Reported c sent r) x = IsReportedIn x.phase r
 Asks s (Assign e c r by) x = IsTrue (is_open x.phase) × IsTrue (has_capacity s.config x) × (r.0 ≡ x.next_stream)
 Asks s _ x = Unit {0}
 
-orderly_reported : (s : AbstractPool) (sent : ℕ) (r : Report) (x y : Connection) → IsReportedIn x.phase r → IsReported s r (with_sent sent x) y → IsOrderly s.config x → IsOrderly s.config y
+orderly_reported : (s : AbstractPool) (sent : ℕ) (r : Report) (x y : Connection) → IsReportedIn x.phase r → IsReported s r (with_sent sent x) y → HasStreamsInOrder s.config x → HasStreamsInOrder s.config y
 orderly_reported s sent (report.Opened id) x y h is was =
     let z : Connection = with_sent sent x in
-    subst (IsOrderly s.config) (sym is) (orderly_after_opened s.config (is_some s.shutdown) s.latest id z h (orderly_sent s.config sent x was))
+    subst (HasStreamsInOrder s.config) (sym is) (orderly_after_opened s.config (is_some s.shutdown) s.latest id z h (orderly_sent s.config sent x was))
 orderly_reported s sent r x y h is was = orderly_leaves s.config (with_sent sent x) y is (orderly_sent s.config sent x was)
 
-orderly_change : (s : AbstractPool) (who : CallerNo) (act : Act) (x y : Connection) → Asks s act x → Changes s who act x y → IsOrderly s.config x → IsOrderly s.config y
-orderly_change s who (Dial c target) x y asked is h = subst (IsOrderly s.config) (sym is) (orderly_dialing s.config who x asked h)
+orderly_change : (s : AbstractPool) (who : CallerNo) (act : Act) (x y : Connection) → Asks s act x → Changes s who act x y → HasStreamsInOrder s.config x → HasStreamsInOrder s.config y
+orderly_change s who (Dial c target) x y asked is h = subst (HasStreamsInOrder s.config) (sym is) (orderly_dialing s.config who x asked h)
 orderly_change s who (Orders c sent orders) x y asked is h =
-    subst (IsOrderly s.config) (sym is) (orderly_with_taken s.config orders (with_sent sent x) asked (orderly_sent s.config sent x h))
+    subst (HasStreamsInOrder s.config) (sym is) (orderly_with_taken s.config orders (with_sent sent x) asked (orderly_sent s.config sent x h))
 orderly_change s who (Reported c sent r) x y asked is h = orderly_reported s sent r x y asked is h
-orderly_change s who (Closed c sent cause heard) x y asked is h = subst (IsOrderly s.config) (sym is) (orderly_gone s.config (with_sent sent x) (orderly_sent s.config sent x h))
+orderly_change s who (Closed c sent cause heard) x y asked is h = subst (HasStreamsInOrder s.config) (sym is) (orderly_gone s.config (with_sent sent x) (orderly_sent s.config sent x h))
 orderly_change s who (Assign e c r by) x y asked is h =
-    subst (IsOrderly s.config) (sym is) (orderly_with_start s.config s.config.last_stream e r x asked.0 asked.1 asked.2 h)
+    subst (HasStreamsInOrder s.config) (sym is) (orderly_with_start s.config s.config.last_stream e r x asked.0 asked.1 asked.2 h)
 orderly_change s who _ x y asked is h = orderly_leaves s.config x y is h
 
-new_orderly : (config : Config) (y : Connection) → IsNew y → IsOrderly config y
-new_orderly config y new = subst (IsOrderly config) (sym new.is_new) (orderly_new config new.group new.wanted_for new.now)
+new_orderly : (config : Config) (y : Connection) → IsNew y → HasStreamsInOrder config y
+new_orderly config y new = subst (HasStreamsInOrder config) (sym new.is_new) (orderly_new config new.group new.wanted_for new.now)
 
 stay_act : (s : AbstractPool) (who : CallerNo) (act : Act) → ((x : Connection) → numbered (conn_of act) s.connections ≡ Some x → Asks s act x) →
     StayOrderly s.config s.connections (after_act s who act).connections
@@ -110,7 +110,7 @@ stay_legal s e legal = elim legal [
   | inr calls ↦ stay_act (noted s e.moment) e.who e.act (asked_reply (noted s e.moment) e.who e.act calls.reply)
 ]
 
-orderly_at : (config : Config) (o : Option Connection) → ((y : Connection) → o ≡ Some y → IsOrderly config y) → OrderlyAt config o
+orderly_at : (config : Config) (o : Option Connection) → ((y : Connection) → o ≡ Some y → HasStreamsInOrder config y) → OrderlyAt config o
 orderly_at config None each = tt
 orderly_at config (Some y) each = each y refl
 
@@ -118,7 +118,7 @@ pub orderly_after : (s : AbstractPool) (e : Entry) → MayStand s e → AreOrder
 orderly_after s e stand orderly number y is_item =
     let before : OrderlyAt s.config (numbered number s.connections) = orderly_at s.config (numbered number s.connections) (orderly number) in
     let later : OrderlyAt s.config (Some y) = subst (OrderlyAt s.config) is_item (stay_legal s e stand.legal number before) in
-    subst (λ (config : Config). IsOrderly config y) (sym (config-after s e)) later
+    subst (λ (config : Config). HasStreamsInOrder config y) (sym (config-after s e)) later
 
 pub orderly_opening : (config : Config) → AreOrderly (opening config)
 orderly_opening config number y is_item = let none = none_numbered Connection number in absurd cc

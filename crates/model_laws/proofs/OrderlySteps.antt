@@ -15,7 +15,7 @@ use Rattle.model_changes.specs.Connections.{started_by, streams_started, closing
 use Rattle.model_laws.proofs.AssignedLemmas.{place_parts}
 use Rattle.model_laws.proofs.StayLemmas.{stream_rises}
 use Rattle.model_laws.specs.LimitLaws.{HasPlace}
-use Rattle.model_laws.specs.Sound.{HasNoStreams, IsOrderly}
+use Rattle.model_laws.specs.Sound.{HasNoStreams, HasStreamsInOrder}
 use Rattle.model_histories.proofs.EffectLemmas.{Below, Lasting, Leaves, going_by, orders_none, leaves_closing}
 use Rattle.model_authority.proofs.PhaseLemmas.{follows, excludes}
 use Rattle.model_authority.specs.Statuses.{is_wanted, is_dialing, is_open, is_closing, is_opening, is_h2, shows, speaks_h2}
@@ -41,7 +41,7 @@ none_left xs (y ∷ ys) less none =
 -- ---- one connection
 
 -- by any change that neither dials, opens nor ends it, gives it a stream or takes its orders
-pub orderly_leaves : (config : Config) (x y : Connection) → Leaves x y → IsOrderly config x → IsOrderly config y
+pub orderly_leaves : (config : Config) (x y : Connection) → Leaves x y → HasStreamsInOrder config x → HasStreamsInOrder config y
 orderly_leaves config x y k h =
     let next : y.next_stream ≡ x.next_stream = ap (λ (l : Lasting). l.next_stream) k.lasts in
     let started : y.started ≡ x.started = ap (λ (l : Lasting). l.started) k.lasts in
@@ -54,32 +54,36 @@ orderly_leaves config x y k h =
           let none = h.opening (going_by (λ p q. is_opening q) (λ p q. is_opening p) refl x.phase y.phase k.phase o) in
           record { started = started ∙ none.started; ordered = orders_none x.orders y.orders k.ordered none.ordered; live = none_left x.live y.live live none.live };
       closing = k.closing h.closing;
-      h2 = λ t. let few : length x.live ≤ config.streams = h.h2 (sym speaks ∙ t) in omega arith;
-      h1 = λ f. let few : length x.live ≤ 1 = h.h1 (λ t. f (speaks ∙ t)) in omega arith;
+      streams = record {
+        h2 = λ t. let few : length x.live ≤ config.streams = h.streams.h2 (sym speaks ∙ t) in omega arith;
+        h1 = λ f. let few : length x.live ≤ 1 = h.streams.h1 (λ t. f (speaks ∙ t)) in omega arith;
+      };
     }
 
-pub orderly_sent : (config : Config) (sent : ℕ) (c : Connection) → IsOrderly config c → IsOrderly config (with_sent sent c)
-orderly_sent config sent c h = record { started = h.started; ordered = h.ordered; opening = λ o. let none = h.opening o in record { started = none.started; ordered = none.ordered; live = none.live }; closing = h.closing; h2 = h.h2; h1 = h.h1 }
+pub orderly_sent : (config : Config) (sent : ℕ) (c : Connection) → HasStreamsInOrder config c → HasStreamsInOrder config (with_sent sent c)
+orderly_sent config sent c h = record { started = h.started; ordered = h.ordered; opening = λ o. let none = h.opening o in record { started = none.started; ordered = none.ordered; live = none.live }; closing = h.closing; streams = h.streams }
 
 -- ---- the end
 
-pub orderly_gone : (config : Config) (c : Connection) → IsOrderly config c → IsOrderly config (gone c)
-orderly_gone config c h = record { started = h.started; ordered = h.ordered; opening = λ o. absurd cc; closing = λ t. absurd cc; h2 = h.h2; h1 = h.h1 }
+pub orderly_gone : (config : Config) (c : Connection) → HasStreamsInOrder config c → HasStreamsInOrder config (gone c)
+orderly_gone config c h = record { started = h.started; ordered = h.ordered; opening = λ o. absurd cc; closing = λ t. absurd cc; streams = h.streams }
 
 -- ---- being wanted, dialed and opened
 
-pub orderly_new : (config : Config) (g : GroupKey) (wanted_for : Option ExchangeNo) (now : Moment) → IsOrderly config (new_connection g wanted_for now)
+pub orderly_new : (config : Config) (g : GroupKey) (wanted_for : Option ExchangeNo) (now : Moment) → HasStreamsInOrder config (new_connection g wanted_for now)
 orderly_new config g wanted_for now = record {
   started = All-nil (Below 1);
   ordered = All-nil (Below 1);
   opening = λ o. record { started = refl; ordered = refl; live = refl };
   closing = λ t. refl;
-  h2 = λ t. omega arith;
-  h1 = λ f. omega arith;
+  streams = record {
+    h2 = λ t. omega arith;
+    h1 = λ f. omega arith;
+  };
 }
 
 -- one that is wanted has no streams, and has none where it is dialed
-pub orderly_dialing : (config : Config) (who : CallerNo) (c : Connection) → is_wanted c.phase ≡ true → IsOrderly config c → IsOrderly config (dialing_by who c)
+pub orderly_dialing : (config : Config) (who : CallerNo) (c : Connection) → is_wanted c.phase ≡ true → HasStreamsInOrder config c → HasStreamsInOrder config (dialing_by who c)
 orderly_dialing config who c wanted h = record {
   started = h.started;
   ordered = h.ordered;
@@ -87,12 +91,11 @@ orderly_dialing config who c wanted h = record {
       let none = h.opening (follows is_wanted is_opening refl c.phase wanted) in
       record { started = none.started; ordered = none.ordered; live = none.live };
   closing = λ t. absurd cc;
-  h2 = h.h2;
-  h1 = h.h1;
+  streams = h.streams;
 }
 
 -- one without streams may have any identity, and any next stream
-orderly_opened_with : (config : Config) (now : Moment) (id : Identity) (c : Connection) → HasNoStreams c → IsOrderly config (opened_with now id c)
+orderly_opened_with : (config : Config) (now : Moment) (id : Identity) (c : Connection) → HasNoStreams c → HasStreamsInOrder config (opened_with now id c)
 orderly_opened_with config now id c none =
     let empty : length c.live ≡ 0 = ap (λ (rs : List StreamNo). length rs) none.live in
     record {
@@ -100,11 +103,13 @@ orderly_opened_with config now id c none =
       ordered = all_none (Below 1) (streams_started c.orders) none.ordered;
       opening = λ o. absurd cc;
       closing = λ t. absurd cc;
-      h2 = λ t. omega arith;
-      h1 = λ f. omega arith;
+      streams = record {
+        h2 = λ t. omega arith;
+        h1 = λ f. omega arith;
+      };
     }
 
-orderly_refused_with : (config : Config) (id : Identity) (c : Connection) → HasNoStreams c → IsOrderly config c → IsOrderly config (refused_with id c)
+orderly_refused_with : (config : Config) (id : Identity) (c : Connection) → HasNoStreams c → HasStreamsInOrder config c → HasStreamsInOrder config (refused_with id c)
 orderly_refused_with config id c none h =
     let empty : length c.live ≡ 0 = ap (λ (rs : List StreamNo). length rs) none.live in
     orderly_leaves config (record c { identity = Some id }) (refused_with id c) (leaves_closing (record c { identity = Some id })) (record {
@@ -112,22 +117,24 @@ orderly_refused_with config id c none h =
       ordered = h.ordered;
       opening = λ o. record { started = none.started; ordered = none.ordered; live = none.live };
       closing = h.closing;
-      h2 = λ t. omega arith;
-      h1 = λ f. omega arith;
+      streams = record {
+        h2 = λ t. omega arith;
+        h1 = λ f. omega arith;
+      };
     })
 
-pub orderly_after_opened : (config : Config) (is_shut : Bool) (now : Moment) (id : Identity) (c : Connection) → is_dialing c.phase ≡ true → IsOrderly config c →
-    IsOrderly config (after_opened is_shut now id c)
+pub orderly_after_opened : (config : Config) (is_shut : Bool) (now : Moment) (id : Identity) (c : Connection) → is_dialing c.phase ≡ true → HasStreamsInOrder config c →
+    HasStreamsInOrder config (after_opened is_shut now id c)
 unfolding after_opened
 orderly_after_opened config is_shut now id c dialing h =
     let none : HasNoStreams c = h.opening (follows is_dialing is_opening refl c.phase dialing) in
-    cond_both (not is_shut && suits c.group id) (opened_with now id c) (refused_with id c) (IsOrderly config)
+    cond_both (not is_shut && suits c.group id) (opened_with now id c) (refused_with id c) (HasStreamsInOrder config)
     (λ t. orderly_opened_with config now id c none) (λ f. orderly_refused_with config id c none h)
 
 -- ---- starts
 
 pub orderly_with_start : (config : Config) (last : ℕ) (e : ExchangeNo) (r : StreamNo) (c : Connection) → is_open c.phase ≡ true → IsTrue (has_capacity config c) → r.0 ≡ c.next_stream →
-    IsOrderly config c → IsOrderly config (with_start last e r c)
+    HasStreamsInOrder config c → HasStreamsInOrder config (with_start last e r c)
 unfolding with_start
 orderly_with_start config last e r c opened capacity given h =
     let next : ℕ = stream_after r c in
@@ -140,8 +147,10 @@ orderly_with_start config last e r c opened capacity given h =
       ordered = subst (All (Below next)) (sym (flat_map-append started_by c.orders (mark.Start e r ∷ []))) ordered;
       opening = λ o. absurd (both_ways _ (apart is_opening refl (excludes is_open is_opening refl c.phase opened)) o);
       closing = λ t. absurd (both_ways _ (apart is_closing refl (excludes is_open is_closing refl c.phase opened)) t);
-      h2 = λ t. let less : length c.live < config.streams = (place.h2 t).0 in omega (arith, length_push c.live r);
-      h1 = λ f. let none : length c.live ≡ 0 = ap (λ (rs : List StreamNo). length rs) (place.h1 f) in omega (arith, length_push c.live r);
+      streams = record {
+        h2 = λ t. let less : length c.live < config.streams = (place.h2 t).0 in omega (arith, length_push c.live r);
+        h1 = λ f. let none : length c.live ≡ 0 = ap (λ (rs : List StreamNo). length rs) (place.h1 f) in omega (arith, length_push c.live r);
+      };
     }
   where
     apart : (f : Phase → Bool) → f Draining ≡ false → f c.phase ≡ false → f (with_start last e r c).phase ≡ false
@@ -151,7 +160,7 @@ orderly_with_start config last e r c opened capacity given h =
     risen rs all = All-weaker (Below c.next_stream) (Below (stream_after r c)) (λ x below. let rises : r.0 < stream_after r c = stream_rises r c in omega arith) rs all
 
 -- what is taken are the orders that it has
-pub orderly_with_taken : (config : Config) (orders : List OrderMark) (c : Connection) → orders ≡ c.orders → IsOrderly config c → IsOrderly config (with_taken orders c)
+pub orderly_with_taken : (config : Config) (orders : List OrderMark) (c : Connection) → orders ≡ c.orders → HasStreamsInOrder config c → HasStreamsInOrder config (with_taken orders c)
 orderly_with_taken config orders c are h =
     let same : streams_started orders ≡ streams_started c.orders = ap (λ (ms : List OrderMark). streams_started ms) are in
     record {
@@ -162,6 +171,5 @@ orderly_with_taken config orders c are h =
           let taken : streams_started orders ≡ [] = same ∙ none.ordered in
           record { started = ap (λ (rs : List StreamNo). rs ++ streams_started orders) none.started ∙ taken; ordered = refl; live = none.live };
       closing = λ t. refl;
-      h2 = h.h2;
-      h1 = h.h1;
+      streams = h.streams;
     }

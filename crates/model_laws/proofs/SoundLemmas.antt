@@ -20,7 +20,7 @@ use Rattle.model_laws.specs.Courses.{state_at}
 use Rattle.model_laws.specs.EndLaws.{ClosingOnesStartNothing}
 use Rattle.model_laws.specs.LeaseLaws.{StreamsAreLeasedOnce}
 use Rattle.model_laws.specs.LimitLaws.{ConnectionsStayWithinLimits, StreamsStayWithinLimits}
-use Rattle.model_laws.specs.Sound.{LeasesAreCarried, LeasesAreApart, StartedAreSent, IsOrderly, IsShutDown, RowsAreApart, ReachedIsSound}
+use Rattle.model_laws.specs.Sound.{LeasesAreCarried, LeasesAreApart, StartedAreSent, HasStreamsInOrder, IsShutDown, RowsAreApart, ReachedIsSound}
 use Rattle.model_histories.proofs.RunLemmas.{config-run}
 use Rattle.model_histories.specs.Histories.{opening, MayStand}
 use Rattle.model_histories.specs.Legal.{IsWorkersEntry, MayTake}
@@ -86,11 +86,13 @@ reached_is_sound config h n history =
       carried = k.carried;
       apart = k.apart;
       sent = k.sent;
-      orderly = λ number y is_item. subst (λ (c : Config). IsOrderly c y) same (k.orderly number y is_item);
+      orderly = λ number y is_item. subst (λ (c : Config). HasStreamsInOrder c y) same (k.orderly number y is_item);
       moves = k.moves;
       shut = k.shut;
-      total = subst (λ (c : Config). count_total s ≤ c.total) same k.within.0;
-      group = λ (g : GroupKey). subst (λ (c : Config). count_in_group s g ≤ c.per_group) same (k.within.1 g);
+      within = record {
+        total = subst (λ (c : Config). count_total s ≤ c.total) same k.within.0;
+        group = λ (g : GroupKey). subst (λ (c : Config). count_in_group s g ≤ c.per_group) same (k.within.1 g);
+      };
       exchanges = subst (λ (c : Config). length s.exchanges ≤ c.submissions) same k.numbers.0;
       connections = k.numbers.1;
       few = k.few;
@@ -103,12 +105,10 @@ pub alternatives_are_few : AlternativesAreFew
 alternatives_are_few config h n history = (reached_is_sound config h n history).few
 
 pub connections_stay_within_limits : ConnectionsStayWithinLimits
-connections_stay_within_limits config h n history =
-    let sound = reached_is_sound config h n history in record { total = sound.total; group = sound.group }
+connections_stay_within_limits config h n history = (reached_is_sound config h n history).within
 
 pub streams_stay_within_limits : StreamsStayWithinLimits
-streams_stay_within_limits config h n number y history is_item =
-    let orderly : IsOrderly config y = (reached_is_sound config h n history).orderly number y is_item in record { h2 = orderly.h2; h1 = orderly.h1 }
+streams_stay_within_limits config h n number y history is_item = ((reached_is_sound config h n history).orderly number y is_item).streams
 
 -- the orders that are taken are those of the connection
 pub closing_ones_start_nothing : ClosingOnesStartNothing
@@ -118,7 +118,7 @@ closing_ones_start_nothing config h n e c sent orders y comes is is_item closing
     let v = value_and (numbered c.0 s.connections) (λ x. IsWorkersEntry x e.who sent × MayTake x orders) may in
     let same : v.0 ≡ y = same_item (numbered c.0 s.connections) v.0 y v.1 is_item in
     let taken : orders ≡ y.orders = v.2.1.1 ∙ ap (λ (x : Connection). x.orders) same in
-    let orderly : IsOrderly config y = (reached_is_sound config h n comes.history).orderly c.0 y is_item in
+    let orderly : HasStreamsInOrder config y = (reached_is_sound config h n comes.history).orderly c.0 y is_item in
     ap (λ (ms : List OrderMark). streams_started ms) taken ∙ orderly.closing closing
 
 pub streams_are_leased_once : StreamsAreLeasedOnce

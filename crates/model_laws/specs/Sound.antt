@@ -4,61 +4,59 @@ use Rattle.std.specs.Prelude.{◌≡◌, ◌<◌, ◌≤◌, ℕ, List, [], Some
 use Rattle.net_base.specs.declared.numbers.ConnNo.{ConnNo}
 use Rattle.net_base.specs.declared.numbers.StreamNo.{StreamNo}
 use Rattle.partition_keys.specs.Equality.{same_group}
-use Rattle.partition_keys.specs.declared.group.GroupKey.{GroupKey}
+use Rattle.model_laws.specs.LimitLaws.{IsWithinLimits, HasStreamsWithin}
 use Rattle.model_changes.specs.Connections.{streams_started}
 use Rattle.model_laws.specs.Courses.{state_at}
 use Rattle.model_histories.specs.Histories.{IsHistory}
-use Rattle.model_settling.specs.Counts.{count_total, count_in_group}
 use Rattle.model_values.specs.declared.config.Config.{Config}
 use Rattle.model_values.specs.declared.entry.Entry.{Entry}
 use Rattle.model_values.specs.declared.state.AbstractPool.{AbstractPool}
 use Rattle.model_values.specs.declared.state.Connection.{Connection}
 use Rattle.model_values.specs.declared.state.Exchange.{Exchange}
 use Rattle.model_authority.specs.Lists.{numbered}
-use Rattle.model_authority.specs.Statuses.{has_ended, is_wanted, is_open, is_draining, is_closing, is_opening, is_busy, is_at, is_unsent_at, speaks_h2}
+use Rattle.model_authority.specs.Statuses.{has_ended, is_wanted, is_open, is_draining, is_closing, is_opening, is_busy, is_at, is_unsent_at}
 use Rattle.model_authority.specs.Ways.{is_row_of, is_host_row_of}
 
 -- the connection was opened and isn't gone, and the stream's number is below the next one
-pub record Carries (y : Connection) (r : StreamNo) : Type 0 where
-  pub busy : IsTrue (is_busy y.phase)
-  pub given : r.0 < y.next_stream
+pub record Carries (connection : Connection) (r : StreamNo) : Type 0 where
+  pub busy : IsTrue (is_busy connection.phase)
+  pub given : r.0 < connection.next_stream
 
 -- each lease is on a stream of a connection that carries it
 abbrev pub LeasesAreCarried : AbstractPool → Type 0
-LeasesAreCarried s = (number : ℕ) (x : Exchange) (c : ConnNo) (r : StreamNo) → numbered number s.exchanges ≡ Some x → IsTrue (is_at c r x.status) → IsSomeAnd (numbered c.0 s.connections) (λ y. Carries y r)
+LeasesAreCarried s = (number : ℕ) (exchange : Exchange) (c : ConnNo) (r : StreamNo) → numbered number s.exchanges ≡ Some exchange → IsTrue (is_at c r exchange.status) → IsSomeAnd (numbered c.0 s.connections) (λ connection. Carries connection r)
 
 -- no two exchanges have a lease on one stream of one connection
 abbrev pub LeasesAreApart : AbstractPool → Type 0
 LeasesAreApart s =
-    (n m : ℕ) (x y : Exchange) (c : ConnNo) (r : StreamNo) → numbered n s.exchanges ≡ Some x → numbered m s.exchanges ≡ Some y →
-    IsTrue (is_at c r x.status) → IsTrue (is_at c r y.status) → n ≡ m
+    (n m : ℕ) (exchange other : Exchange) (c : ConnNo) (r : StreamNo) → numbered n s.exchanges ≡ Some exchange → numbered m s.exchanges ≡ Some other →
+    IsTrue (is_at c r exchange.status) → IsTrue (is_at c r other.status) → n ≡ m
 
 -- a lease on a stream that was started isn't unsent
 abbrev pub StartedAreSent : AbstractPool → Type 0
 StartedAreSent s =
-    (number : ℕ) (x : Exchange) (c : ConnNo) (r : StreamNo) (y : Connection) → numbered number s.exchanges ≡ Some x → IsTrue (is_unsent_at c r x.status) →
-    numbered c.0 s.connections ≡ Some y → ¬ Contains y.started r
+    (number : ℕ) (exchange : Exchange) (c : ConnNo) (r : StreamNo) (connection : Connection) → numbered number s.exchanges ≡ Some exchange → IsTrue (is_unsent_at c r exchange.status) →
+    numbered c.0 s.connections ≡ Some connection → ¬ Contains connection.started r
 
 -- no stream was started, is ordered to start, or is live
-pub record HasNoStreams (y : Connection) : Type 0 where
-  pub started : y.started ≡ []
-  pub ordered : streams_started y.orders ≡ []
-  pub live : y.live ≡ []
+pub record HasNoStreams (connection : Connection) : Type 0 where
+  pub started : connection.started ≡ []
+  pub ordered : streams_started connection.orders ≡ []
+  pub live : connection.live ≡ []
 
 -- a connection's streams have numbers below the next one; one that isn't up yet has none, one that closes starts none; and no more of
 -- them are live than the pool's own limit allows on HTTP/2, and one on HTTP/1.1
-pub record IsOrderly (config : Config) (y : Connection) : Type 0 where
-  pub started : All (λ r. r.0 < y.next_stream) y.started
-  pub ordered : All (λ r. r.0 < y.next_stream) (streams_started y.orders)
-  pub opening : IsTrue (is_opening y.phase) → HasNoStreams y
-  pub closing : IsTrue (is_closing y.phase) → streams_started y.orders ≡ []
-  pub h2 : IsTrue (speaks_h2 y) → length y.live ≤ config.streams
-  pub h1 : (¬ IsTrue (speaks_h2 y)) → length y.live ≤ 1
+pub record HasStreamsInOrder (config : Config) (connection : Connection) : Type 0 where
+  pub started : All (λ r. r.0 < connection.next_stream) connection.started
+  pub ordered : All (λ r. r.0 < connection.next_stream) (streams_started connection.orders)
+  pub opening : IsTrue (is_opening connection.phase) → HasNoStreams connection
+  pub closing : IsTrue (is_closing connection.phase) → streams_started connection.orders ≡ []
+  pub streams : HasStreamsWithin config connection
 
 -- a pool that was shut down has ended each exchange, and has no connection that is wanted, open or draining
 pub record IsShutDown (s : AbstractPool) : Type 0 where
-  pub ended : (number : ℕ) (x : Exchange) → numbered number s.exchanges ≡ Some x → IsTrue (has_ended x.status)
-  pub closed : (number : ℕ) (y : Connection) → numbered number s.connections ≡ Some y → (¬ IsTrue (is_wanted y.phase)) × (¬ IsTrue (is_open y.phase)) × (¬ IsTrue (is_draining y.phase))
+  pub ended : (number : ℕ) (exchange : Exchange) → numbered number s.exchanges ≡ Some exchange → IsTrue (has_ended exchange.status)
+  pub closed : (number : ℕ) (connection : Connection) → numbered number s.connections ≡ Some connection → (¬ IsTrue (is_wanted connection.phase)) × (¬ IsTrue (is_open connection.phase)) × (¬ IsTrue (is_draining connection.phase))
 
 -- at most one row is of one origin in one partition, of one host in one partition, and of one group: so the first that fits is the one
 -- that does
@@ -73,11 +71,10 @@ pub record IsSound (config : Config) (s : AbstractPool) : Type 0 where
   pub carried : LeasesAreCarried s
   pub apart : LeasesAreApart s
   pub sent : StartedAreSent s
-  pub orderly : (number : ℕ) (y : Connection) → numbered number s.connections ≡ Some y → IsOrderly config y
-  pub moves : (number : ℕ) (x : Exchange) → numbered number s.exchanges ≡ Some x → x.moves ≤ 5
+  pub orderly : (number : ℕ) (connection : Connection) → numbered number s.connections ≡ Some connection → HasStreamsInOrder config connection
+  pub moves : (number : ℕ) (exchange : Exchange) → numbered number s.exchanges ≡ Some exchange → exchange.moves ≤ 5
   pub shut : IsSome s.shutdown → IsShutDown s
-  pub total : count_total s ≤ config.total
-  pub group : (g : GroupKey) → count_in_group s g ≤ config.per_group
+  pub within : IsWithinLimits config s
   pub exchanges : length s.exchanges ≤ config.submissions
   pub connections : length s.connections ≤ 2147483647
   pub few : length s.alternatives ≤ 1024
