@@ -32,7 +32,7 @@ use std::marker::Model;
 
 /// The port of a pool that keeps nothing but its history. Its caller is the pool's only one. Each call works out the
 /// state anew, and takes a longer history only where `first_bad` finds nothing in it; else it is as if memory had been
-/// wanting. It shows that what a port promises can be kept.
+/// wanting. It shows a pool as its caller would see it.
 #[derive(Drop)]
 pub struct JudgedPort {
     config: Config,

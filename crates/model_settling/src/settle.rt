@@ -334,7 +334,8 @@ fn computed_due(s: &AbstractPool) -> Option<Due>
     evict_due(s)
 }
 
-/// What the pool is to do by itself: the first kind that applies. Takes no memory.
+/// What the pool is to do by itself: the first kind that applies, of a state with at most 4294967294 connections. Takes no
+/// memory.
 pub fn next_due(s: &AbstractPool) -> Option<Due>
     requires { length s.now.connections ≤ 4294967294 }
     ensures computes { result ≡ spec.due_of s.now }
