@@ -3,9 +3,10 @@ use Rattle.std.proofs.Common.{◌≡◌, ◌⊎◌, inl, inr, ℕ, zero, suc, �
 use Rattle.std.proofs.lemmas.Bool.{eqb-true, eqb-false}
 use Rattle.std.proofs.lemmas.List.Elements.{All-nil, All-cons, All-head, All-tail}
 use Rattle.std.proofs.lemmas.List.{drop_more, drop_all}
+use Rattle.plain_values.specs.Lines.{IsInLine}
 use Rattle.h1_frames.specs.declared.unit.Place.{Place}
 use Rattle.h1_frames.specs.declared.unit.Place.TheVariants.{Blank, BlankReturn, Within, Behind, BehindReturn}
-use Rattle.h1_frames.specs.Units.{IsLine, IsEmptyLine, IsFullLine, lines_text, AreHeadLines, IsHeadUnit, BeginsWithUnit, HasNoUnit}
+use Rattle.h1_frames.specs.Units.{IsEmptyLine, IsFullLine, lines_text, AreHeadLines, IsHeadUnit, BeginsWithUnit, HasNoUnit}
 use Rattle.h1_frames.proofs.UnitSteps.{step, more_or_last, left}
 
 -- the text is a rest, read from this place, at whose end a unit ends
@@ -73,7 +74,7 @@ Tail text =
 
 -- the rest of a line, and a tail
 abbrev LineTail : List ℕ → Type 0
-LineTail text = (line : List ℕ) × (rest : List ℕ) × IsLine line × Tail rest × (text ≡ line ++ 10 ∷ rest)
+LineTail text = (line : List ℕ) × (rest : List ℕ) × IsInLine line × Tail rest × (text ≡ line ++ 10 ∷ rest)
 
 abbrev Form : Place → List ℕ → Type 0
 Form Blank text = IsHeadUnit text
@@ -151,13 +152,13 @@ octets_not_empty : (a b : ℕ) (line : List ℕ) → ¬ (IsEmptyLine (a ∷ b �
 octets_not_empty a b line (inl e) = cc
 octets_not_empty a b line (inr e) = cc
 
-line_more : (b : ℕ) (line : List ℕ) → ¬ (b ≡ 10) → IsLine line → IsLine (b ∷ line)
+line_more : (b : ℕ) (line : List ℕ) → ¬ (b ≡ 10) → IsInLine line → IsInLine (b ∷ line)
 line_more b line other is = All-cons (λ octet. ¬ (octet ≡ 10)) b line other is
 
-full_other : (b : ℕ) (line : List ℕ) → ¬ (b ≡ 10) → ¬ (b ≡ 13) → IsLine line → IsFullLine (b ∷ line)
+full_other : (b : ℕ) (line : List ℕ) → ¬ (b ≡ 10) → ¬ (b ≡ 13) → IsInLine line → IsFullLine (b ∷ line)
 full_other b line feed return is = (line_more b line feed is, octet_not_empty b line return)
 
-full_return : (b : ℕ) (line : List ℕ) → ¬ (b ≡ 10) → IsLine line → IsFullLine (13 ∷ b ∷ line)
+full_return : (b : ℕ) (line : List ℕ) → ¬ (b ≡ 10) → IsInLine line → IsFullLine (13 ∷ b ∷ line)
 full_return b line feed is = (line_more 13 (b ∷ line) return_no_feed (line_more b line feed is), octets_not_empty 13 b line)
 
 -- From the machine to lines.
@@ -235,7 +236,7 @@ ends_step p q b rest s e =
     let G : Option Place → Type 0 = λ o. goes (λ q. Ends q rest) rest o in
     subst G (sym s) e
 
-within_ends : (line rest : List ℕ) → IsLine line → Ends Behind rest → Ends Within (line ++ 10 ∷ rest)
+within_ends : (line rest : List ℕ) → IsInLine line → Ends Behind rest → Ends Within (line ++ 10 ∷ rest)
 within_ends [] rest is e = e
 within_ends (b ∷ line) rest is e =
     let feed = All-head (λ octet. ¬ (octet ≡ 10)) b line is in
@@ -253,10 +254,10 @@ full_ends first return (b ∷ line) rest full e at_return at_other at_second = b
     feed : ¬ (b ≡ 10)
     feed = All-head (λ octet. ¬ (octet ≡ 10)) b line full.0
 
-    later : IsLine line
+    later : IsInLine line
     later = All-tail (λ octet. ¬ (octet ≡ 10)) b line full.0
 
-    second : (line : List ℕ) → IsLine line → ¬ (IsEmptyLine (13 ∷ line)) → Ends return (line ++ 10 ∷ rest)
+    second : (line : List ℕ) → IsInLine line → ¬ (IsEmptyLine (13 ∷ line)) → Ends return (line ++ 10 ∷ rest)
     second [] is full = absurd (full (inr refl))
     second (c ∷ line) is full =
         let feed = All-head (λ octet. ¬ (octet ≡ 10)) c line is in

@@ -3,18 +3,15 @@
 -- before a request line, empty lines may stand before a status line too.
 use Rattle.std.specs.Prelude.{◌≡◌, ◌⊎◌, ◌<◌, ◌≤◌, ℕ, List, [], ◌∷◌, ◌++◌, length, take, All}
 use Rattle.std.specs.List.{flat_map}
+use Rattle.plain_values.specs.Lines.{IsInLine}
 
--- a line is what stands before its LF, which it doesn't hold
-abbrev pub IsLine : List ℕ → Type 0
-IsLine line = All (λ octet. ¬ (octet ≡ 10)) line
-
--- a line is empty where nothing or one CR stands before its LF
+-- a line is what stands before its LF, which it doesn't hold; it is empty where nothing or one CR stands before its LF
 abbrev pub IsEmptyLine : List ℕ → Type 0
 IsEmptyLine line = (line ≡ []) ⊎ (line ≡ 13 ∷ [])
 
 -- a line that isn't empty
 abbrev pub IsFullLine : List ℕ → Type 0
-IsFullLine line = IsLine line × ¬ (IsEmptyLine line)
+IsFullLine line = IsInLine line × ¬ (IsEmptyLine line)
 
 -- the text of lines: each of them and its LF
 abbrev pub lines_text : List (List ℕ) → List ℕ

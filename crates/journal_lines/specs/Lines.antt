@@ -168,4 +168,4 @@ act_words (act.Evict c) = codes "evict" ∷ decimal c.0 ∷ []
 
 -- the moment in milliseconds, the caller, which is 0 for the pool itself, and the act
 abbrev pub entry_line : Entry → List ℕ
-entry_line e = decimal e.moment.0 ++ spaced_words (decimal e.who.0 ∷ act_words e.act) ++ 10 ∷ []
+entry_line x = decimal x.moment.0 ++ spaced_words (decimal x.who.0 ∷ act_words x.act) ++ 10 ∷ []

@@ -93,4 +93,4 @@ ActFits (act.Want e c target) = Fits64 e.0 × Fits32 c.0 × Fits16 target.port
 ActFits (act.Evict c) = Fits32 c.0
 
 abbrev pub EntryFits : Entry → Type 0
-EntryFits e = Fits32 e.who.0 × Fits64 e.moment.0 × ActFits e.act
+EntryFits x = Fits32 x.who.0 × Fits64 x.moment.0 × ActFits x.act

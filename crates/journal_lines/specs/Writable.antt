@@ -77,4 +77,4 @@ HasWritableKey (act.Evict c) = ⊤
 
 -- the entry has a line that is read back as it
 abbrev pub IsWritable : Entry → Type 0
-IsWritable e = IsTrue (is_writable_act e.act) × HasWritableKey e.act
+IsWritable x = IsTrue (is_writable_act x.act) × HasWritableKey x.act

@@ -24,7 +24,7 @@ is_accepted _ = false
 
 -- how many submissions were accepted. In a history that is how many exchanges there are
 abbrev pub submitted_count : List Entry → ℕ
-submitted_count h = count_by (λ (e : Entry). is_accepted e.act) h
+submitted_count h = count_by (λ (x : Entry). is_accepted x.act) h
 
 -- how many connections the act makes: one where one is wanted for an exchange, and those that a preconnect opens
 abbrev pub made_by : Act → ℕ
@@ -34,7 +34,7 @@ made_by _ = 0
 
 -- how many connections were made, whether they came up or not
 abbrev pub connection_count : List Entry → ℕ
-connection_count h = sum_by (λ (e : Entry). made_by e.act) h
+connection_count h = sum_by (λ (x : Entry). made_by x.act) h
 
 -- ---- what became of the exchanges
 

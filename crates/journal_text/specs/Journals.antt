@@ -17,11 +17,11 @@ IsInLine text = All (λ b. b ≢ 10) text
 
 -- the line of this entry, which can be read back, without its LF
 abbrev pub IsLineOf : List ℕ → Entry → Type 0
-IsLineOf line e = (line ++ 10 ∷ [] ≡ entry_line e) × IsWritable e
+IsLineOf line x = (line ++ 10 ∷ [] ≡ entry_line x) × IsWritable x
 
 -- the line of no entry
 abbrev pub IsLineOfNone : List ℕ → Type 0
-IsLineOfNone line = (e : Entry) → EntryFits e → ¬ (IsLineOf line e)
+IsLineOfNone line = (x : Entry) → EntryFits x → ¬ (IsLineOf line x)
 
 -- the format's own line and the lines of these entries
 abbrev pub lines_text : List Entry → List ℕ

@@ -1,4 +1,5 @@
 pub mod Ranges
 pub mod Readers
+pub mod WordLaws
 pub mod Words
 pub mod Writable

@@ -10,6 +10,7 @@ mod faults;
 mod line;
 mod readers;
 mod texts;
+mod word_laws;
 
 pub use faults::WordFault;
 pub use line::{put, put_alt, put_number, put_proof, put_target};
@@ -24,3 +25,4 @@ pub use texts::{
     fields_text, hex_text, host_and_port, list_text, number_text, octets_text, origin_text,
     proto_text, security_text, streams_text, via_text, way_text,
 };
+pub use word_laws::{choices_are_read_back, numbers_are_read_back, parts_are_read_back};

@@ -30,11 +30,11 @@ pub record IsJudged (config : Config) (who : CallerNo) (h : List Entry) : Type 0
 pub record Settles (old new : List Entry) : Type 0 where
   pub behind : List Entry
   pub seen : new ≡ old ++ behind
-  pub settles : All (λ e. e.who.0 ≡ 0) behind
+  pub settles : All (λ x. x.who.0 ≡ 0) behind
 
 -- the entry, and entries of the pool itself behind it, make a longer history
-pub record Follows (config : Config) (old : List Entry) (e : Entry) (new : List Entry) : Type 0 where
-  pub added : Settles (old ++ e ∷ []) new
+pub record Follows (config : Config) (old : List Entry) (x : Entry) (new : List Entry) : Type 0 where
+  pub added : Settles (old ++ x ∷ []) new
   pub history : IsHistory config new
 
 -- a call leaves its entry, and nothing before it

@@ -1,3 +1,4 @@
 pub mod Lists
 pub mod Statuses
+pub mod WayLaws
 pub mod Ways

@@ -61,6 +61,18 @@ has_coalesced_lease Waiting = false
 has_coalesced_lease (Leased conn stream by handed) = is_coalesced_way by
 has_coalesced_lease (Ended outcome) = false
 
+-- the connection goes to an alternative or to another origin
+abbrev pub is_elsewhere : Way → Bool
+is_elsewhere way.Direct = false
+is_elsewhere way.Alternative = true
+is_elsewhere way.Coalesced = true
+
+-- it has a lease, and the connection doesn't go to its origin itself
+abbrev pub is_leased_elsewhere : Status → Bool
+is_leased_elsewhere Waiting = false
+is_leased_elsewhere (Leased conn stream by handed) = is_elsewhere by
+is_leased_elsewhere (Ended outcome) = false
+
 abbrev pub is_wanted : Phase → Bool
 is_wanted Wanted = true
 is_wanted Dialing = false

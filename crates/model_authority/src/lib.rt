@@ -6,4 +6,5 @@
 pub mod keys;
 pub mod lists;
 pub mod statuses;
+pub mod way_laws;
 pub mod ways;

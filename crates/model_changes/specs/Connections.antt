@@ -1,5 +1,5 @@
 -- What becomes of a connection.
-use Rattle.std.specs.Prelude.{ℕ, List, [], ◌∷◌, ◌++◌, ◌+◌, ◌&&◌, ◌||◌, not, nat_lt, nat_le, Bool, true, false, Option, Some, None, if◌then◌else◌, filter}
+use Rattle.std.specs.Prelude.{ℕ, List, [], ◌∷◌, ◌++◌, ◌+◌, ◌==◌, ◌&&◌, ◌||◌, not, nat_lt, nat_le, Bool, true, false, Option, Some, None, if◌then◌else◌, filter}
 use Rattle.std.specs.List.{list_any, flat_map}
 use Rattle.net_base.specs.Equality.{same_proto}
 use Rattle.net_base.specs.declared.identity.Identity.{Identity}
@@ -13,7 +13,6 @@ use Rattle.net_base.specs.declared.target.Via.{Via}
 use Rattle.net_base.specs.declared.target.Via.TheVariants as via
 use Rattle.partition_keys.specs.declared.group.GroupKey.{GroupKey}
 use Rattle.model_authority.specs.Lists.{is_nil}
-use Rattle.model_changes.specs.Moves.{is_stream}
 use Rattle.model_authority.specs.Statuses.{is_open, is_draining, is_closing, is_gone, is_wanted, is_unsent_at, speaks_h2}
 use Rattle.model_authority.specs.Ways.{is_https, is_secured_for}
 use Rattle.model_values.specs.declared.order.OrderMark.{OrderMark}
@@ -21,6 +20,9 @@ use Rattle.model_values.specs.declared.order.OrderMark.TheVariants as mark
 use Rattle.model_values.specs.declared.state.Connection.{Connection}
 use Rattle.model_values.specs.declared.state.Exchange.{Exchange}
 use Rattle.model_values.specs.declared.state.Phase.TheVariants.{Wanted, Dialing, Open, Draining, Closing, Gone}
+
+abbrev pub is_stream : StreamNo → StreamNo → Bool
+is_stream a b = a.0 == b.0
 
 -- ---- orders
 
@@ -170,8 +172,8 @@ abbrev pub excluding : Origin → Connection → Connection
 excluding origin c = record c { excluded = c.excluded ++ origin ∷ [] }
 
 -- an answer that is too large costs an HTTP/2 connection its stream alone, and an HTTP/1.1 connection has to close
-unfoldable pub after_too_large : Moment → StreamNo → Connection → Connection
-after_too_large now r c = kept_open (speaks_h2 c) (without_stream now r c)
+unfoldable pub after_large_answer : Moment → StreamNo → Connection → Connection
+after_large_answer now r c = kept_open (speaks_h2 c) (without_stream now r c)
 
 abbrev pub is_unsent_stream : ConnNo → List Exchange → StreamNo → Bool
 is_unsent_stream conn es r = list_any (λ e. is_unsent_at conn r e.status) es
@@ -187,8 +189,8 @@ abbrev pub draining_or_closing : Connection → Connection
 draining_or_closing c = if is_nil c.live then closing c else draining c
 
 -- RFC 9113, section 6.8: it takes no further exchange, and where it carries nothing it closes
-unfoldable pub after_goaway : Moment → ConnNo → List Exchange → StreamNo → Connection → Connection
-after_goaway now conn es last c =
+unfoldable pub going_away : Moment → ConnNo → List Exchange → StreamNo → Connection → Connection
+going_away now conn es last c =
     draining_or_closing (idle_if_run_out now c (record c { live = streams_left conn es last c.live; orders = filter (λ m. not (is_start m)) c.orders }))
 
 abbrev pub gone : Connection → Connection

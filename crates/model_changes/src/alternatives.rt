@@ -4,11 +4,11 @@ ghost use Rattle.std.specs.Option.{option_copied};
 ghost use Rattle.model_changes.specs.Alternatives as spec;
 ghost use Rattle.model_authority.specs.Ways as ways;
 
-use net_base::{Listed, Moment, NoMem, Origin, PlainValue, Target};
-use partition_keys::{AltUpdate, Alternative, Alternatives, PartitionKey, Proof};
-use model_values::AltRow;
 use model_authority::keys::{parts_of_target, same_octets, same_proto, same_target};
 use model_authority::ways::{alternative_parts, is_row_of};
+use model_values::AltRow;
+use net_base::{Listed, Moment, NoMem, Origin, PlainValue, Target};
+use partition_keys::{AltUpdate, Alternative, Alternatives, PartitionKey, Proof};
 use std::alloc::Global;
 
 /// A sum of moments, which stays at the greatest moment.

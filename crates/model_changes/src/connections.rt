@@ -6,13 +6,13 @@ ghost use Rattle.model_authority.specs.Lists.{is_nil};
 ghost use Rattle.model_authority.specs.Statuses as statuses;
 
 use crate::suits::suits;
+use model_authority::statuses::{is_draining, is_open, is_unsent_at, speaks_h2};
+use model_values::{Connection, Exchange, OrderMark, OrderMarks, Phase};
 use net_base::{
     CallerNo, ConnNo, ExchangeNo, Identity, Listed, Moment, NoMem, Origin, PlainValue, StreamList,
     StreamNo,
 };
 use partition_keys::GroupKey;
-use model_values::{Connection, Exchange, OrderMark, OrderMarks, Phase};
-use model_authority::statuses::{is_draining, is_open, is_unsent_at, speaks_h2};
 use std::alloc::Global;
 
 /// Whether there is no stream.
@@ -393,14 +393,14 @@ pub fn excluding(alloc: Global, c: &mut Connection, origin: &Origin) -> Result<(
 }
 
 /// An answer that is too large costs an HTTP/2 connection its stream alone, and an HTTP/1.1 connection has to close.
-#[tactic(auto, unfolding(crate::specs::Connections::after_too_large))]
-pub fn after_too_large(
+#[tactic(auto, unfolding(crate::specs::Connections::after_large_answer))]
+pub fn after_large_answer(
     alloc: Global,
     c: &mut Connection,
     now: Moment,
     r: StreamNo,
 ) -> Result<(), NoMem>
-    ensures { OnOk result (c.new ≡ spec.after_too_large now r c.old) }
+    ensures { OnOk result (c.new ≡ spec.after_large_answer now r c.old) }
 {
     let keep = speaks_h2(c);
     without_stream(alloc, c, now, r)?;
@@ -455,8 +455,8 @@ fn draining_or_closing(alloc: Global, c: &mut Connection) -> Result<(), NoMem>
 }
 
 /// It takes no further exchange, and where it carries nothing it closes (RFC 9113, section 6.8).
-#[tactic(auto, unfolding(crate::specs::Connections::after_goaway))]
-pub fn after_goaway(
+#[tactic(auto, unfolding(crate::specs::Connections::going_away))]
+pub fn going_away(
     alloc: Global,
     c: &mut Connection,
     now: Moment,
@@ -464,7 +464,7 @@ pub fn after_goaway(
     es: &[Exchange],
     last: StreamNo,
 ) -> Result<(), NoMem>
-    ensures { OnOk result (c.new ≡ spec.after_goaway now conn es.now last c.old) }
+    ensures { OnOk result (c.new ≡ spec.going_away now conn es.now last c.old) }
 {
     let live = streams_left(alloc, conn, es, last, c.live.as_slice())?;
     let orders = orders_without_starts(alloc, c.orders.as_slice())?;

@@ -4,12 +4,12 @@ ghost use Rattle.model_changes.specs.Connections as spec;
 ghost use Rattle.model_authority.specs.Lists.{edit};
 
 use crate::connections::{
-    after_answer, after_goaway, after_opened, after_shutdown, after_too_large, closing, dialing_by,
-    excluding, gone, with_limit, with_sent, with_start, with_taken, without_exchange,
+    after_answer, after_large_answer, after_opened, after_shutdown, closing, dialing_by, excluding,
+    going_away, gone, with_limit, with_sent, with_start, with_taken, without_exchange,
     without_start, without_stream,
 };
-use net_base::{CallerNo, ConnNo, ExchangeNo, Identity, Moment, NoMem, Origin, StreamNo};
 use model_values::{Connection, Exchange, OrderMark};
+use net_base::{CallerNo, ConnNo, ExchangeNo, Identity, Moment, NoMem, Origin, StreamNo};
 use std::alloc::Global;
 
 /// It is told to close, and to do nothing else.
@@ -187,24 +187,24 @@ pub fn excluding_at(
 
 /// An answer that is too large costs an HTTP/2 connection its stream alone, and an HTTP/1.1 connection has to close.
 #[tactic(auto, unfolding(model_authority::specs::Lists::edit))]
-pub fn after_too_large_at(
+pub fn after_large_answer_at(
     alloc: Global,
     list: &mut [Connection],
     number: u32,
     now: Moment,
     r: StreamNo,
 ) -> Result<(), NoMem>
-    ensures { OnOk result (list.new ≡ edit number (spec.after_too_large now r) list.old) }
+    ensures { OnOk result (list.new ≡ edit number (spec.after_large_answer now r) list.old) }
 {
     if number > 0 && u64::from(number) <= list.len() as u64 {
-        after_too_large(alloc, &mut list[number as usize - 1], now, r)?;
+        after_large_answer(alloc, &mut list[number as usize - 1], now, r)?;
     }
     Ok(())
 }
 
 /// It takes no further exchange, and where it carries nothing it closes.
 #[tactic(auto, unfolding(model_authority::specs::Lists::edit))]
-pub fn after_goaway_at(
+pub fn going_away_at(
     alloc: Global,
     list: &mut [Connection],
     number: u32,
@@ -213,10 +213,10 @@ pub fn after_goaway_at(
     es: &[Exchange],
     last: StreamNo,
 ) -> Result<(), NoMem>
-    ensures { OnOk result (list.new ≡ edit number (spec.after_goaway now conn es.now last) list.old) }
+    ensures { OnOk result (list.new ≡ edit number (spec.going_away now conn es.now last) list.old) }
 {
     if number > 0 && u64::from(number) <= list.len() as u64 {
-        after_goaway(alloc, &mut list[number as usize - 1], now, conn, es, last)?;
+        going_away(alloc, &mut list[number as usize - 1], now, conn, es, last)?;
     }
     Ok(())
 }

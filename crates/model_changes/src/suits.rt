@@ -2,10 +2,10 @@
 ghost use Rattle.std.specs.Prelude.{◌≡◌};
 ghost use Rattle.model_changes.specs.Connections as spec;
 
-use net_base::{Identity, Via};
-use partition_keys::GroupKey;
 use model_authority::keys::same_proto;
 use model_authority::ways::{is_https, secured_for};
+use net_base::{Identity, Via};
+use partition_keys::GroupKey;
 
 /// Whether the identity is good for the group's target (RFC 7838, sections 2.4 and 2.1; RFC 9110, section
 /// 4.3.4).

@@ -6,7 +6,7 @@ use Rattle.net_base.specs.declared.numbers.ConnNo.{ConnNo}
 use Rattle.net_base.specs.declared.numbers.ExchangeNo.{ExchangeNo}
 use Rattle.net_base.specs.declared.numbers.Moment.{Moment}
 use Rattle.net_base.specs.declared.numbers.StreamNo.{StreamNo}
-use Rattle.model_changes.specs.Connections.{closing, idle_from, has_run_out, idle_if_run_out, other_streams, is_start, is_start_of, without_stream, without_start, without_exchange, stream_after, with_start, kept_open, without_reset, after_answer, after_too_large, streams_left, draining, draining_or_closing, after_goaway, gone, after_shutdown}
+use Rattle.model_changes.specs.Connections.{closing, idle_from, has_run_out, idle_if_run_out, other_streams, is_start, is_start_of, without_stream, without_start, without_exchange, stream_after, with_start, kept_open, without_reset, after_answer, after_large_answer, streams_left, draining, draining_or_closing, going_away, gone, after_shutdown}
 use Rattle.model_histories.proofs.EditLemmas.{edit_at, map_at, append_at}
 use Rattle.model_authority.specs.Lists.{numbered, edit, is_nil}
 use Rattle.model_authority.specs.Statuses.{is_wanted, is_dialing, is_open, is_draining, is_closing, is_gone, is_busy, is_opening, speaks_h2}
@@ -201,8 +201,8 @@ keeps_after_answer now r keep c up =
     let k : Keeps c left = keeps_trans c less left (keeps_phase c less refl refl refl refl) (keeps_without_stream now r less) in
     keeps_trans c left (kept_open keep left) k (keeps_kept_open keep left (keeps_up c left k up))
 
-pub keeps_after_too_large : (now : Moment) (r : StreamNo) (c : Connection) → is_opening c.phase ≡ false → Keeps c (after_too_large now r c)
-unfolding after_too_large
+pub keeps_after_too_large : (now : Moment) (r : StreamNo) (c : Connection) → is_opening c.phase ≡ false → Keeps c (after_large_answer now r c)
+unfolding after_large_answer
 keeps_after_too_large now r c up =
     let left : Connection = without_stream now r c in
     let k : Keeps c left = keeps_without_stream now r c in
@@ -217,8 +217,8 @@ keeps_drained : (c : Connection) → is_opening c.phase ≡ false → Keeps c (d
 keeps_drained c up = cond_both (is_nil c.live) (closing c) (draining c) (Keeps c) (λ t. keeps_closing c up) (λ f. keeps_draining c)
 
 pub keeps_after_goaway : (now : Moment) (conn : ConnNo) (es : List Exchange) (last : StreamNo) (c : Connection) → is_opening c.phase ≡ false →
-    Keeps c (after_goaway now conn es last c)
-unfolding after_goaway
+    Keeps c (going_away now conn es last c)
+unfolding going_away
 keeps_after_goaway now conn es last c up =
     let less : Connection = record c { live = streams_left conn es last c.live; orders = filter (λ m. not (is_start m)) c.orders } in
     let left : Connection = idle_if_run_out now c less in

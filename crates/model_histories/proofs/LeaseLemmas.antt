@@ -1,29 +1,33 @@
 -- A lease whose start was handed is on a connection that was opened.
 use Rattle.std.proofs.Common.{◌≡◌, ℕ, List, [], ◌∷◌, ◌++◌, Option, Some, None, true, false, sym, subst, map}
-use Rattle.std.specs.Prelude.{◌+◌, ◌&&◌, ◌==◌, nat_le}
+use Rattle.std.specs.Prelude.{◌+◌, ◌&&◌, ◌==◌}
 use Rattle.std.specs.List.{list_any}
 use Rattle.std.proofs.lemmas.Bool.{cond_both, and_parts, eqb-true}
 use Rattle.net_base.specs.declared.end_cause.EndCause.{EndCause}
-use Rattle.net_base.specs.declared.identity.Identity.{Identity}
 use Rattle.net_base.specs.declared.numbers.CallerNo.{CallerNo}
 use Rattle.net_base.specs.declared.numbers.ConnNo.{ConnNo}
 use Rattle.net_base.specs.declared.numbers.ExchangeNo.{ExchangeNo}
 use Rattle.net_base.specs.declared.numbers.Moment.{Moment}
 use Rattle.net_base.specs.declared.numbers.StreamNo.{StreamNo}
-use Rattle.net_base.specs.declared.target.Target.{Target}
+use Rattle.net_base.specs.declared.response.Response.{Response}
 use Rattle.net_base.specs.declared.target.Via.{Via}
 use Rattle.net_base.specs.declared.target.Via.TheVariants as via
 use Rattle.partition_keys.specs.declared.group.GroupKey.{GroupKey}
-use Rattle.model_changes.specs.Connections.{is_start_of, gone, without_start, without_exchange}
-use Rattle.model_changes.specs.Moves.{may_move}
+use Rattle.model_changes.specs.Connections.{is_start_of, without_start, without_exchange}
+use Rattle.model_histories.proofs.CauseLemmas.{by_moved, by_refused, by_ended_at, by_left_out, by_answered, by_lost, by_identity, by_open, by_alt_seen, by_closed, by_want}
 use Rattle.model_histories.proofs.EditLemmas.{edit_at, map_at, append_at, each_one}
 use Rattle.model_histories.proofs.KeepLemmas.{AreKept, kept_same, kept_edit, keeps_without_start, keeps_without_exchange}
-use Rattle.model_steps.specs.After.{after_submit, released_lease, released_by, released, after_cancel, after_reprioritise, after_preconnect, after_resolved, after_network, after_shut, after_dial, after_orders, ended_for, after_useless, is_useless, after_identity_of, after_open_of, after_open, after_answered, after_leases, after_alt_seen, after_report, is_dial_failed, after_failed_dial, after_closed, after_expire, after_lapse, after_assign, after_want_of, after_want, after_evict, sent_noted, after_act}
-use Rattle.model_steps.specs.Exchanges.{new_exchange, with_status, ended_by, with_urgency, timed_out_at, timed_out, ended_unless, ended_if_waiting, moved, marked_by, ended_at, ended_on, ended_by_report, ended_by_act, lease_after, handed_lease, handed_by}
+use Rattle.model_steps.specs.After.{after_submit, released_lease, released_by, released, after_cancel, after_reprioritise, after_preconnect, after_resolved, after_network, after_shut, after_dial, after_orders, after_report, after_expire, after_lapse, after_assign, after_evict, sent_noted, after_act}
+use Rattle.model_steps.specs.Opened.{ended_for, after_useless}
+use Rattle.model_steps.specs.Answered.{as_misdirected, answered, after_answered}
+use Rattle.model_steps.specs.Lost.{as_retried, lost, after_lost, after_closed}
+use Rattle.model_steps.specs.Exchanges.{new_exchange, with_status, ended_by, with_urgency, timed_out_at, timed_out, ended_unless, ended_if_waiting, moved, handed_lease, handed_by}
+use Rattle.model_steps.specs.Goaway.{left_out}
+use Rattle.model_steps.specs.StreamEnds.{refused, ended_at}
 use Rattle.model_authority.specs.Lists.{numbered, edit}
-use Rattle.model_authority.specs.Statuses.{is_waiting, has_ended, is_on, is_at, is_opening}
+use Rattle.model_authority.specs.Statuses.{is_waiting, has_ended, is_opening}
 use Rattle.model_values.specs.declared.entry.Act.{Act}
-use Rattle.model_values.specs.declared.entry.Act.TheVariants.{Submit, Cancel, Reprioritise, Preconnect, Resolved, Network, Tick, Shutdown, Dial, Orders, Reported, Closed, Expire, Lapse, Assign, Want, Evict}
+use Rattle.model_values.specs.declared.entry.Act.TheVariants.{Submit, Cancel, Reprioritise, Preconnect, Resolved, Shutdown, Orders, Reported, Closed, Expire, Lapse, Assign, Want}
 use Rattle.model_values.specs.declared.order.OrderMark.{OrderMark}
 use Rattle.model_values.specs.declared.outcome.Outcome.{Outcome}
 use Rattle.model_values.specs.declared.outcome.Outcome.TheVariants as outcome
@@ -102,52 +106,22 @@ up_timed_out xs e h = by e.ask.deadline
     by (Some m) = tt
 
 up_moved : (xs : List Connection) (e : Exchange) → IsHandedUp xs (moved e).status
-unfolding moved
-up_moved xs e =
-    cond_both (nat_le 5 e.moves) (ended_by outcome.TooManyMoves e) (record e { status = Waiting; moves = e.moves + 1 }) (λ (x : Exchange). IsHandedUp xs x.status)
-    (λ t. tt) (λ f. tt)
+up_moved xs e = by_moved (λ x. IsHandedUp xs x.status) e tt (λ f. tt)
+
+up_answered : (xs : List Connection) (c : ConnNo) (r : StreamNo) (response : Response) (e : Exchange) → IsHandedUp xs e.status → IsHandedUp xs (answered c r response e).status
+up_answered xs c r response e h = by_answered (λ x. IsHandedUp xs x.status) c r response e (λ t m. up_moved xs (as_misdirected e)) (λ t. tt) h
+
+up_refused : (xs : List Connection) (c : ConnNo) (r : StreamNo) (e : Exchange) → IsHandedUp xs e.status → IsHandedUp xs (refused c r e).status
+up_refused xs c r e h = by_refused (λ x. IsHandedUp xs x.status) c r e (λ t. up_moved xs e) h
 
 up_ended_at : (xs : List Connection) (c : ConnNo) (r : StreamNo) (how : Outcome) (e : Exchange) → IsHandedUp xs e.status → IsHandedUp xs (ended_at c r how e).status
-up_ended_at xs c r how e h = cond_both (is_at c r e.status) (ended_by how e) e (λ (x : Exchange). IsHandedUp xs x.status) (λ t. tt) (λ f. h)
+up_ended_at xs c r how e h = by_ended_at (λ x. IsHandedUp xs x.status) c r how e (λ t. tt) h
 
-up_ended_on : (xs : List Connection) (c : ConnNo) (how : Outcome) (e : Exchange) → IsHandedUp xs e.status → IsHandedUp xs (ended_on c how e).status
-up_ended_on xs c how e h = cond_both (is_on c e.status) (ended_by how e) e (λ (x : Exchange). IsHandedUp xs x.status) (λ t. tt) (λ f. h)
+up_left_out : (xs : List Connection) (c : ConnNo) (last : StreamNo) (e : Exchange) → IsHandedUp xs e.status → IsHandedUp xs (left_out c last e).status
+up_left_out xs c last e h = by_left_out (λ x. IsHandedUp xs x.status) c last e (λ t. up_moved xs e) h
 
-up_ended_by_report : (xs : List Connection) (c : ConnNo) (r : Report) (e : Exchange) → IsHandedUp xs e.status → IsHandedUp xs (ended_by_report c r e).status
-up_ended_by_report xs c (report.Opened id) e h = h
-up_ended_by_report xs c (report.Limit n) e h = h
-up_ended_by_report xs c (report.Answered r response keep alt proof) e h = up_ended_at xs c r (outcome.Answered response) e h
-up_ended_by_report xs c (report.Refused r) e h = h
-up_ended_by_report xs c (report.Reset r code) e h = up_ended_at xs c r (outcome.Reset code) e h
-up_ended_by_report xs c (report.TooLarge r) e h = up_ended_at xs c r outcome.TooLarge e h
-up_ended_by_report xs c (report.StreamClosed r) e h = h
-up_ended_by_report xs c (report.Goaway last) e h = h
-up_ended_by_report xs c (report.AltSeen origin alt) e h = h
-
-up_ended_by_act : (xs : List Connection) (act : Act) (e : Exchange) → IsHandedUp xs e.status → IsHandedUp xs (ended_by_act act e).status
-up_ended_by_act xs (Submit ask reply) e h = h
-up_ended_by_act xs (Cancel exchange reply) e h = h
-up_ended_by_act xs (Reprioritise exchange urgency reply) e h = h
-up_ended_by_act xs (Preconnect key credentials origin count reply) e h = h
-up_ended_by_act xs (Resolved key host addresses reply) e h = h
-up_ended_by_act xs Network e h = h
-up_ended_by_act xs Tick e h = h
-up_ended_by_act xs (Shutdown reply) e h = h
-up_ended_by_act xs (Dial conn target) e h = h
-up_ended_by_act xs (Orders conn sent orders) e h = h
-up_ended_by_act xs (Reported conn sent report) e h = up_ended_by_report xs conn report e h
-up_ended_by_act xs (Closed conn sent cause heard) e h = up_ended_on xs conn (outcome.Lost conn cause) e h
-up_ended_by_act xs (Expire exchange) e h = h
-up_ended_by_act xs (Lapse exchange) e h = h
-up_ended_by_act xs (Assign exchange conn r way) e h = h
-up_ended_by_act xs (Want exchange conn target) e h = h
-up_ended_by_act xs (Evict conn) e h = h
-
-up_lease_after : (xs : List Connection) (act : Act) (e : Exchange) → IsHandedUp xs e.status → IsHandedUp xs (lease_after act e).status
-unfolding lease_after
-up_lease_after xs act e h =
-    cond_both (may_move e act) (moved (marked_by act e)) (ended_by_act act e) (λ (x : Exchange). IsHandedUp xs x.status)
-    (λ t. up_moved xs (marked_by act e)) (λ f. up_ended_by_act xs act e h)
+up_lost : (xs : List Connection) (c : ConnNo) (cause : EndCause) (heard : List StreamNo) (e : Exchange) → IsHandedUp xs e.status → IsHandedUp xs (lost c cause heard e).status
+up_lost xs c cause heard e h = by_lost (λ x. IsHandedUp xs x.status) c cause heard e (λ t m. up_moved xs (as_retried e)) (λ t f. tt) (λ f. h)
 
 -- orders are taken only of a connection that was opened
 up_handed : (xs : List Connection) (c : ConnNo) (orders : List OrderMark) (status : Status) → IsUp (numbered c.0 xs) → IsHandedUp xs status → IsHandedUp xs (handed_lease c orders status)
@@ -184,111 +158,47 @@ up_useless : (xs : List Connection) (s : AbstractPool) (g : GroupKey) (wanted_fo
 up_useless xs s g wanted_for how via.Direct up = up_ended_for xs wanted_for how s.exchanges up
 up_useless xs s g wanted_for how (via.Alternative p) up = up
 
-up_identity : (xs : List Connection) (s : AbstractPool) (conn : ConnNo) (g : GroupKey) (wanted_for : Option ExchangeNo) (id : Identity) → AreLeasesUp xs s.exchanges →
-    AreLeasesUp xs (after_identity_of s conn g wanted_for id).exchanges
-up_identity xs s conn g wanted_for id up =
-    let useless = after_useless s g wanted_for (outcome.Identity conn) g.target.via in
-    cond_both (is_useless s g id) useless s (λ (t : AbstractPool). AreLeasesUp xs t.exchanges)
-    (λ u. up_useless xs s g wanted_for (outcome.Identity conn) g.target.via up) (λ u. up)
-
-up_open : (xs : List Connection) (s : AbstractPool) (conn : ConnNo) (id : Identity) → AreLeasesUp xs s.exchanges → AreLeasesUp xs (after_open s conn id).exchanges
-unfolding after_open
-up_open xs s conn id up = by (numbered conn.0 s.connections)
-  where
-    by : (o : Option Connection) → AreLeasesUp xs (after_open_of s conn id o).exchanges
-    by None = up
-    by (Some c) = up_identity xs s conn c.group c.wanted_for id up
-
-up_leases : (xs : List Connection) (act : Act) (es : List Exchange) → AreLeasesUp xs es → AreLeasesUp xs (map (lease_after act) es)
-up_leases xs act es up = up_map xs (lease_after act) es (up_lease_after xs act) up
-
-up_report : (xs : List Connection) (s : AbstractPool) (conn : ConnNo) (act : Act) (r : Report) → AreLeasesUp xs s.exchanges → AreLeasesUp xs (after_report s conn act r).exchanges
+up_report : (xs : List Connection) (s : AbstractPool) (conn : ConnNo) (r : Report) → AreLeasesUp xs s.exchanges → AreLeasesUp xs (after_report s conn r).exchanges
 unfolding after_answered
-up_report xs s conn act (report.Opened id) up = up_open xs s conn id up
-up_report xs s conn act (report.Limit n) up = up
-up_report xs s conn act (report.Answered r response keep alt proof) up = up_leases xs act s.exchanges up
-up_report xs s conn act (report.Refused r) up = up_leases xs act s.exchanges up
-up_report xs s conn act (report.Reset r code) up = up_leases xs act s.exchanges up
-up_report xs s conn act (report.TooLarge r) up = up_leases xs act s.exchanges up
-up_report xs s conn act (report.StreamClosed r) up = up
-up_report xs s conn act (report.Goaway last) up = up_leases xs act s.exchanges up
-up_report xs s conn act (report.AltSeen origin alt) up = by (numbered conn.0 s.connections)
-  where
-    by : (o : Option Connection) → AreLeasesUp xs (after_alt_seen s origin alt o).exchanges
-    by None = up
-    by (Some c) = up
+up_report xs s conn (report.Opened id) up =
+    by_open (λ t. AreLeasesUp xs t.exchanges) s conn id
+    (λ c. by_identity (λ t. AreLeasesUp xs t.exchanges) s conn c.group c.wanted_for id (up_useless xs s c.group c.wanted_for (outcome.Identity conn) c.group.target.via up) up) up
+up_report xs s conn (report.Answered r response keep alt proof) up = up_map xs (answered conn r response) s.exchanges (up_answered xs conn r response) up
+up_report xs s conn (report.Refused r) up = up_map xs (refused conn r) s.exchanges (up_refused xs conn r) up
+up_report xs s conn (report.Reset r code) up = up_map xs (ended_at conn r (outcome.Reset code)) s.exchanges (up_ended_at xs conn r (outcome.Reset code)) up
+up_report xs s conn (report.TooLarge r) up = up_map xs (ended_at conn r outcome.TooLarge) s.exchanges (up_ended_at xs conn r outcome.TooLarge) up
+up_report xs s conn (report.Goaway last) up = up_map xs (left_out conn last) s.exchanges (up_left_out xs conn last) up
+up_report xs s conn (report.AltSeen origin alt) up = by_alt_seen (λ t. AreLeasesUp xs t.exchanges) s conn origin alt (λ c. up) up
+up_report xs s conn _ up = up
 
-up_closed : (xs : List Connection) (s : AbstractPool) (conn : ConnNo) (c : EndCause) (act : Act) → AreLeasesUp xs s.exchanges → AreLeasesUp xs (after_closed s conn c act).exchanges
-unfolding after_closed
-up_closed xs s conn c act up =
-    let left : AbstractPool = after_leases s conn act gone in
-    let here : AreLeasesUp xs left.exchanges = up_leases xs act s.exchanges up in
-    cond_both (is_dial_failed c) (after_failed_dial left conn (numbered conn.0 s.connections)) left (λ (t : AbstractPool). AreLeasesUp xs t.exchanges)
-    (λ f. by (numbered conn.0 s.connections)) (λ f. here)
-  where
-    by : (o : Option Connection) → AreLeasesUp xs (after_failed_dial (after_leases s conn act gone) conn o).exchanges
-    by None = up_leases xs act s.exchanges up
-    by (Some x) = up_useless xs (after_leases s conn act gone) x.group x.wanted_for (outcome.DialFault conn) x.group.target.via (up_leases xs act s.exchanges up)
-
-up_want : (xs : List Connection) (s : AbstractPool) (e : ExchangeNo) (t : Target) → AreLeasesUp xs s.exchanges → AreLeasesUp xs (after_want s e t).exchanges
-unfolding after_want
-up_want xs s e t up = by (numbered e.0 s.exchanges)
-  where
-    by : (o : Option Exchange) → AreLeasesUp xs (after_want_of s e t o).exchanges
-    by None = up
-    by (Some x) = up
+up_closed : (xs : List Connection) (s : AbstractPool) (conn : ConnNo) (cause : EndCause) (heard : List StreamNo) → AreLeasesUp xs s.exchanges →
+    AreLeasesUp xs (after_closed s conn cause heard).exchanges
+up_closed xs s conn cause heard up =
+    let left : AreLeasesUp xs (after_lost s conn cause heard).exchanges = up_map xs (lost conn cause heard) s.exchanges (up_lost xs conn cause heard) up in
+    by_closed (λ t. AreLeasesUp xs t.exchanges) s conn cause heard
+    (λ c. up_useless xs (after_lost s conn cause heard) c.group c.wanted_for (outcome.DialFault conn) c.group.target.via left) left
 
 -- ---- any act
 
 -- the connection of these orders was opened
 abbrev pub IsHandable : List Connection → Act → Type 0
-IsHandable xs (Submit ask reply) = Unit {0}
-IsHandable xs (Cancel e reply) = Unit {0}
-IsHandable xs (Reprioritise e urgency reply) = Unit {0}
-IsHandable xs (Preconnect key credentials origin count reply) = Unit {0}
-IsHandable xs (Resolved key host addresses reply) = Unit {0}
-IsHandable xs Network = Unit {0}
-IsHandable xs Tick = Unit {0}
-IsHandable xs (Shutdown reply) = Unit {0}
-IsHandable xs (Dial c target) = Unit {0}
 IsHandable xs (Orders c sent orders) = IsUp (numbered c.0 xs)
-IsHandable xs (Reported c sent report) = Unit {0}
-IsHandable xs (Closed c sent cause heard) = Unit {0}
-IsHandable xs (Expire e) = Unit {0}
-IsHandable xs (Lapse e) = Unit {0}
-IsHandable xs (Assign e c r way) = Unit {0}
-IsHandable xs (Want e c t) = Unit {0}
-IsHandable xs (Evict c) = Unit {0}
+IsHandable xs _ = Unit {0}
 
 -- with the connections as they were before the act
 pub up_after_act : (xs : List Connection) (s : AbstractPool) (who : CallerNo) (act : Act) → IsHandable xs act → AreLeasesUp xs s.exchanges → AreLeasesUp xs (after_act s who act).exchanges
 unfolding after_submit after_cancel after_reprioritise after_preconnect after_resolved after_network after_shut after_dial after_orders after_expire after_lapse after_assign after_evict
-up_after_act xs s who (Submit ask (submit.Closed place)) h up = up
-up_after_act xs s who (Submit ask submit.BadProbe) h up = up
-up_after_act xs s who (Submit ask (submit.SubmissionsFull n)) h up = up
 up_after_act xs s who (Submit ask (submit.Accepted e)) h up = up_push xs s.exchanges (new_exchange who ask) tt up
-up_after_act xs s who (Cancel e cancel.Unknown) h up = up
-up_after_act xs s who (Cancel e cancel.Ended) h up = up
 up_after_act xs s who (Cancel e cancel.Cancelled) h up = up_edit xs e.0 (ended_by outcome.Cancelled) s.exchanges (λ x k. tt) up
-up_after_act xs s who (Reprioritise e urgency change.Unknown) h up = up
-up_after_act xs s who (Reprioritise e urgency change.Ended) h up = up
 up_after_act xs s who (Reprioritise e urgency change.Changed) h up = up_edit xs e.0 (with_urgency urgency) s.exchanges (λ x k. k) up
-up_after_act xs s who (Preconnect key credentials origin count (preconnect.Closed place)) h up = up
-up_after_act xs s who (Preconnect key credentials origin count (preconnect.NoRoom total in_group)) h up = up
 up_after_act xs s who (Preconnect key credentials origin count (preconnect.Opening k)) h up = up
-up_after_act xs s who (Resolved key host addresses (resolved.Closed place)) h up = up
-up_after_act xs s who (Resolved key host addresses (resolved.TooMany n)) h up = up
 up_after_act xs s who (Resolved key host addresses resolved.Noted) h up = up
-up_after_act xs s who Network h up = up
-up_after_act xs s who Tick h up = up
-up_after_act xs s who (Shutdown (shut.Closed place)) h up = up
 up_after_act xs s who (Shutdown shut.Noted) h up = up_map xs (ended_unless outcome.PoolClosed) s.exchanges (up_ended_unless xs outcome.PoolClosed) up
-up_after_act xs s who (Dial c target) h up = up
 up_after_act xs s who (Orders c sent orders) h up = up_map xs (handed_by c orders) s.exchanges (λ e k. up_handed xs c orders e.status h k) up
-up_after_act xs s who (Reported c sent report) h up = up_report xs (sent_noted s c sent) c (Reported c sent report) report up
-up_after_act xs s who (Closed c sent cause heard) h up = up_closed xs (sent_noted s c sent) c cause (Closed c sent cause heard) up
+up_after_act xs s who (Reported c sent report) h up = up_report xs (sent_noted s c sent) c report up
+up_after_act xs s who (Closed c sent cause heard) h up = up_closed xs (sent_noted s c sent) c cause heard up
 up_after_act xs s who (Expire e) h up = up_edit xs e.0 timed_out s.exchanges (up_timed_out xs) up
 up_after_act xs s who (Lapse e) h up = up_edit xs e.0 (ended_by outcome.NoAlternative) s.exchanges (λ x k. tt) up
 up_after_act xs s who (Assign e c r way) h up = up_edit xs e.0 (with_status (Leased c r way false)) s.exchanges (λ x k. tt) up
-up_after_act xs s who (Want e c t) h up = up_want xs s e t up
-up_after_act xs s who (Evict c) h up = up
+up_after_act xs s who (Want e c t) h up = by_want (λ u. AreLeasesUp xs u.exchanges) s e t (λ x. up) up
+up_after_act xs s who _ h up = up

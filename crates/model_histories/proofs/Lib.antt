@@ -1,4 +1,5 @@
 pub mod AllowedLemmas
+pub mod CauseLemmas
 pub mod DialLemmas
 pub mod EditLemmas
 pub mod FirstBadLemmas

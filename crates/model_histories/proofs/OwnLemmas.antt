@@ -12,13 +12,16 @@ use Rattle.net_base.specs.declared.numbers.StreamNo.{StreamNo}
 use Rattle.net_base.specs.declared.target.Via.{Via}
 use Rattle.net_base.specs.declared.target.Via.TheVariants as via
 use Rattle.partition_keys.specs.declared.group.GroupKey.{GroupKey}
-use Rattle.model_changes.specs.Connections.{closing, without_stream, suits, opened_with, refused_with, after_opened, with_limit, after_answer, excluding, after_too_large, after_goaway, gone}
-use Rattle.model_changes.specs.Moves.{may_move}
+use Rattle.model_changes.specs.Connections.{closing, without_stream, suits, opened_with, refused_with, after_opened, with_limit, after_answer, excluding, after_large_answer, going_away, gone}
+use Rattle.model_laws.specs.MoveLaws.{may_move}
 use Rattle.model_histories.proofs.EditLemmas.{edit_here, edit_other}
 use Rattle.model_histories.proofs.KeepLemmas.{busy_up, dialing_only, Keeps, keeps_refl, keeps_trans, keeps_phase, keeps_up, keeps_without_stream, keeps_after_answer, keeps_after_too_large, keeps_after_goaway}
 use Rattle.model_histories.specs.Legal.{MayReport, MayClose}
 use Rattle.model_histories.specs.Port.{is_opening_report}
-use Rattle.model_steps.specs.After.{after_useless, after_open_of, after_open, lease_at, excluding_moved, connection_after_answer, after_answered, after_leases, after_alt_seen, after_report, is_dial_failed, after_failed_dial, after_closed}
+use Rattle.model_steps.specs.After.{excluding_moved, connection_after_answer, after_leases, after_alt_seen, after_report}
+use Rattle.model_steps.specs.Opened.{after_useless, after_open_of, after_open}
+use Rattle.model_steps.specs.Answered.{lease_at, after_answered}
+use Rattle.model_steps.specs.Lost.{is_dial_failed, after_failed_dial, after_closed}
 use Rattle.model_authority.specs.Lists.{numbered, edit}
 use Rattle.model_authority.specs.Statuses.{is_dialing, is_closing, is_gone, is_busy, is_opening}
 use Rattle.model_values.specs.declared.entry.Act.{Act}
@@ -139,12 +142,12 @@ worked_report s conn act (report.Refused r) x is_item h =
 worked_report s conn act (report.Reset r code) x is_item h =
     one_edit MayWorkBy conn.0 (without_stream s.latest r) s.connections x is_item (worked_keeps x (without_stream s.latest r x) (keeps_without_stream s.latest r x) h)
 worked_report s conn act (report.TooLarge r) x is_item h =
-    let f : Connection → Connection = after_too_large s.latest r in
+    let f : Connection → Connection = after_large_answer s.latest r in
     one_edit MayWorkBy conn.0 f s.connections x is_item (worked_keeps x (f x) (keeps_after_too_large s.latest r x (busy_up x.phase h).2) h)
 worked_report s conn act (report.StreamClosed r) x is_item h =
     one_edit MayWorkBy conn.0 (without_stream s.latest r) s.connections x is_item (worked_keeps x (without_stream s.latest r x) (keeps_without_stream s.latest r x) h)
 worked_report s conn act (report.Goaway last) x is_item h =
-    let f : Connection → Connection = after_goaway s.latest conn s.exchanges last in
+    let f : Connection → Connection = going_away s.latest conn s.exchanges last in
     one_edit MayWorkBy conn.0 f s.connections x is_item (worked_keeps x (f x) (keeps_after_goaway s.latest conn s.exchanges last x (busy_up x.phase h).2) h)
 worked_report s conn act (report.AltSeen origin alt) x is_item h =
     subst (λ o. IsOneEdit MayWorkBy conn.0 x s.connections (after_alt_seen s origin alt o).connections) (sym is_item)

@@ -24,7 +24,8 @@ use Rattle.model_histories.specs.Port.{Held, held_after, held_from}
 use Rattle.model_histories.specs.Reading.{calls_of}
 use Rattle.model_histories.specs.Working.{held_of, held_in, HoldsAsStateSays}
 use Rattle.model_settling.specs.Settling.{IsDue, can_use, is_idle}
-use Rattle.model_steps.specs.After.{noted, after_submit, after_cancel, after_reprioritise, after_preconnect, after_resolved, after_network, after_shut, after_dial, after_orders, after_expire, after_lapse, after_assign, wanted_connection, after_want_of, after_want, after_evict, sent_noted, after_act, after_report, after_closed, after}
+use Rattle.model_steps.specs.After.{noted, after_submit, after_cancel, after_reprioritise, after_preconnect, after_resolved, after_network, after_shut, after_dial, after_orders, after_expire, after_lapse, after_assign, wanted_connection, after_want_of, after_want, after_evict, sent_noted, after_act, after_report, after}
+use Rattle.model_steps.specs.Lost.{after_closed}
 use Rattle.model_authority.proofs.NumberLemmas.{value_and, and_value, passing}
 use Rattle.model_authority.specs.Lists.{numbered, edit, is_nil}
 use Rattle.model_authority.specs.Statuses.{is_wanted, is_open}

@@ -25,25 +25,25 @@ opening config =
 -- the greatest moment of a history, 0 for one without entries
 abbrev pub now_of : List Entry → ℕ
 now_of [] = 0
-now_of (e ∷ es) = max e.moment.0 (now_of es)
+now_of (x ∷ xs) = max x.moment.0 (now_of xs)
 
 -- the state after entries, one after another
 unfoldable pub run_from : AbstractPool → List Entry → AbstractPool
 run_from s [] = s
-run_from s (e ∷ es) = run_from (after s e) es
+run_from s (x ∷ xs) = run_from (after s x) xs
 
 -- the state that a history leaves
 unfoldable pub run : Config → List Entry → AbstractPool
 run config h = run_from (opening config) h
 
 -- the entry is legal here, and a call comes only where the pool has nothing to do by itself
-pub record MayStand (s : AbstractPool) (e : Entry) : Type 0 where
-  pub legal : IsLegal s e
-  pub settled : e.who.0 ≢ 0 → IsSettled s
+pub record MayStand (s : AbstractPool) (x : Entry) : Type 0 where
+  pub legal : IsLegal s x
+  pub settled : x.who.0 ≢ 0 → IsSettled s
 
 -- a history: each entry may stand where it stands, and at the end the pool has nothing to do by itself
 pub record IsHistory (config : Config) (h : List Entry) : Type 0 where
-  pub each : (i : ℕ) (e : Entry) → slice_get h i ≡ Some e → MayStand (run config (take i h)) e
+  pub each : (i : ℕ) (x : Entry) → slice_get h i ≡ Some x → MayStand (run config (take i h)) x
   pub settled : IsSettled (run config h)
 
 -- the entry at this place, counted from 1, may not stand where it stands
@@ -61,5 +61,5 @@ pub record IsUnsettledAt (config : Config) (h : List Entry) (place : ℕ) : Type
 
 -- the first place that keeps the list from being a history
 pub record IsFirstBad (config : Config) (h : List Entry) (place : ℕ) : Type 0 where
-  pub before : (i : ℕ) (e : Entry) → i + 1 < place → slice_get h i ≡ Some e → MayStand (run config (take i h)) e
+  pub before : (i : ℕ) (x : Entry) → i + 1 < place → slice_get h i ≡ Some x → MayStand (run config (take i h)) x
   pub bad : IsBadAt config h place ⊎ IsUnsettledAt config h place

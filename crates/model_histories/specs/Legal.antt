@@ -62,15 +62,15 @@ GoesTo s number target = IsSomeAnd (numbered number s.connections) (λ c. target
 
 -- the worker of the connection takes these orders
 abbrev pub MayTakeAt : AbstractPool → CallerNo → ConnNo → ℕ → List OrderMark → Type 0
-MayTakeAt s who c sent orders = IsSomeAnd (numbered c.0 s.connections) (λ x. IsWorkersEntry x who sent × MayTake x orders)
+MayTakeAt s who c sent orders = IsSomeAnd (numbered c.0 s.connections) (λ connection. IsWorkersEntry connection who sent × MayTake connection orders)
 
 -- the worker of the connection reports this
 abbrev pub MayReportAt : AbstractPool → CallerNo → ConnNo → ℕ → Report → Type 0
-MayReportAt s who c sent report = IsSomeAnd (numbered c.0 s.connections) (λ x. IsWorkersEntry x who sent × MayReport x report)
+MayReportAt s who c sent report = IsSomeAnd (numbered c.0 s.connections) (λ connection. IsWorkersEntry connection who sent × MayReport connection report)
 
 -- the worker of the connection gives it up by this cause
 abbrev pub MayCloseAt : AbstractPool → CallerNo → ConnNo → ℕ → EndCause → Type 0
-MayCloseAt s who c sent cause = IsSomeAnd (numbered c.0 s.connections) (λ x. IsWorkersEntry x who sent × MayClose x cause)
+MayCloseAt s who c sent cause = IsSomeAnd (numbered c.0 s.connections) (λ connection. IsWorkersEntry connection who sent × MayClose connection cause)
 
 -- ---- calls
 
@@ -97,16 +97,16 @@ IsReply s who (Evict c) = ⊥
 -- ---- entries
 
 -- a call's entry: its caller isn't 0, and its reply is the one at this state with the entry's moment counted
-pub record IsCallsEntry (s : AbstractPool) (e : Entry) : Type 0 where
-  pub caller : e.who.0 ≢ 0
-  pub reply : IsReply (noted s e.moment) e.who e.act
+pub record IsCallsEntry (s : AbstractPool) (x : Entry) : Type 0 where
+  pub caller : x.who.0 ≢ 0
+  pub reply : IsReply (noted s x.moment) x.who x.act
 
 -- an entry of the pool itself: it is due, at the greatest moment so far
-pub record IsPoolsEntry (s : AbstractPool) (e : Entry) : Type 0 where
-  pub caller : e.who.0 ≡ 0
-  pub moment : e.moment ≡ s.latest
-  pub due : IsDue s e.act
+pub record IsPoolsEntry (s : AbstractPool) (x : Entry) : Type 0 where
+  pub caller : x.who.0 ≡ 0
+  pub moment : x.moment ≡ s.latest
+  pub due : IsDue s x.act
 
 -- the entry may stand here
 abbrev pub IsLegal : AbstractPool → Entry → Type 0
-IsLegal s e = IsPoolsEntry s e ⊎ IsCallsEntry s e
+IsLegal s x = IsPoolsEntry s x ⊎ IsCallsEntry s x

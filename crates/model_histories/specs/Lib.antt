@@ -4,4 +4,5 @@ pub mod Looks
 pub mod Port
 pub mod Reading
 pub mod Replies
+pub mod ReplyLaws
 pub mod Working

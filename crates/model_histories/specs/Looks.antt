@@ -25,8 +25,8 @@ HasEndedBy how (Ended outcome) = how ≡ outcome
 -- what a caller sees of an exchange at this state
 abbrev pub IsLook : AbstractPool → CallerNo → ExchangeNo → Look → Type 0
 IsLook s who e look.Unknown = own_exchange s who e ≡ None
-IsLook s who e (look.Ended how) = IsSomeAnd (own_exchange s who e) (λ x. HasEndedBy how x.status)
-IsLook s who e (look.Pending n) = IsSomeAnd (own_exchange s who e) (λ x. ¬ IsTrue (has_ended x.status)) × (n ≡ s.entries)
+IsLook s who e (look.Ended how) = IsSomeAnd (own_exchange s who e) (λ exchange. HasEndedBy how exchange.status)
+IsLook s who e (look.Pending n) = IsSomeAnd (own_exchange s who e) (λ exchange. ¬ IsTrue (has_ended exchange.status)) × (n ≡ s.entries)
 
 -- a look at this moment is late: something is due once its moment is counted
 abbrev pub IsLateAt : AbstractPool → Moment → Type 0
@@ -46,4 +46,4 @@ IsNothingWanted s n = NoneWanted s × (s.shutdown ≡ None) × (n ≡ s.entries)
 
 -- no order of the connection is pending, in the history of this length
 abbrev pub IsNothingOrdered : AbstractPool → ConnNo → ℕ → Type 0
-IsNothingOrdered s c n = IsSomeAnd (numbered c.0 s.connections) (λ x. x.orders ≡ []) × (n ≡ s.entries)
+IsNothingOrdered s c n = IsSomeAnd (numbered c.0 s.connections) (λ connection. connection.orders ≡ []) × (n ≡ s.entries)

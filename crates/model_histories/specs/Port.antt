@@ -37,7 +37,7 @@ pub record PortView : Type 0 where
 
 -- no entry of this caller
 abbrev pub NoneOf : CallerNo → List Entry → Type 0
-NoneOf who es = All (λ e. e.who ≢ who) es
+NoneOf who xs = All (λ x. x.who ≢ who) xs
 
 -- what was seen becomes longer, by entries of callers that the port may bring, and stays a history; nothing else changes.
 -- No call, and one call behind another, are of this form
@@ -48,7 +48,7 @@ pub record Grows (v w : PortView) : Type 0 where
   pub lender : w.lender ≡ v.lender
   pub more : List Entry
   pub seen : w.seen ≡ v.seen ++ more
-  pub by : All (λ e. IsTrue (v.adds e.who)) more
+  pub by : All (λ x. IsTrue (v.adds x.who)) more
   pub history : IsHistory v.config v.seen → IsHistory v.config w.seen
 
 -- a call that leaves no entry: what is seen afterwards is a history, and may have entries of others besides
@@ -69,7 +69,7 @@ pub record Leaves (v : PortView) (moment : Moment) (act : Act) (w : PortView) : 
   pub seen : w.seen ≡ v.seen ++ before ++ record { who = v.mine; moment = moment; act = act } ∷ behind
   pub none_before : NoneOf v.mine before
   pub none_behind : NoneOf v.mine behind
-  pub settles : All (λ e. e.who.0 ≡ 0) behind
+  pub settles : All (λ x. x.who.0 ≡ 0) behind
 
 -- a look that isn't late leaves no entry, and a late one a tick. Either way its answer is that of what is seen then
 pub record IsLookAt (v : PortView) (moment : Moment) (no : ExchangeNo) (reply : Look) (w : PortView) : Type 0 where
@@ -114,7 +114,7 @@ held_after c h _ = h
 
 unfoldable pub held_from : ConnNo → Option Held → List Entry → Option Held
 held_from c h [] = h
-held_from c h (e ∷ es) = held_from c (held_after c h e.act) es
+held_from c h (x ∷ xs) = held_from c (held_after c h x.act) xs
 
 -- what the port's caller holds of this connection
 abbrev pub held_by : PortView → ConnNo → Option Held
@@ -157,7 +157,7 @@ MayCloseBy v c sent end = IsSomeAnd (held_by v c) (λ h. (h.sent ≤ sent) × Is
 
 -- no entry of the caller is about this connection
 abbrev pub IsNewTo : PortView → ConnNo → Type 0
-IsNewTo v c = All (λ e. ¬ IsTrue (is_about c e.act)) (calls_of v.seen v.mine)
+IsNewTo v c = All (λ x. ¬ IsTrue (is_about c x.act)) (calls_of v.seen v.mine)
 
 -- a connection to dial is new to its caller
 abbrev pub IsSeekAt : PortView → Moment → Seek → PortView → Type 0

@@ -7,10 +7,9 @@ use Rattle.net_base.specs.declared.numbers.ConnNo.{ConnNo}
 use Rattle.net_base.specs.declared.numbers.ExchangeNo.{ExchangeNo}
 use Rattle.net_base.specs.declared.numbers.StreamNo.{StreamNo}
 use Rattle.net_base.specs.declared.target.Target.{Target}
-use Rattle.model_changes.specs.Connections.{is_start_of, is_reset_of}
+use Rattle.model_changes.specs.Connections.{is_start_of, is_reset_of, is_stream}
 use Rattle.model_histories.specs.Histories.{run}
 use Rattle.model_authority.specs.Lists.{numbered}
-use Rattle.model_changes.specs.Moves.{is_stream}
 use Rattle.model_authority.specs.Statuses.{is_at}
 use Rattle.model_values.specs.declared.config.Config.{Config}
 use Rattle.model_values.specs.declared.entry.Act.{Act}
@@ -31,7 +30,7 @@ use Rattle.model_values.specs.declared.submission.Submission.{Submission}
 
 -- the entries of a caller, in order
 abbrev pub calls_of : List Entry → CallerNo → List Entry
-calls_of h who = filter (λ e. e.who.0 == who.0) h
+calls_of h who = filter (λ x. x.who.0 == who.0) h
 
 -- the entry is one of this connection's worker
 abbrev pub is_about : ConnNo → Act → Bool
@@ -49,7 +48,7 @@ accepted_by _ = []
 
 -- the submissions that were accepted, in order: the n-th is that of exchange n
 abbrev pub submissions_of : List Entry → List Submission
-submissions_of h = flat_map (λ e. accepted_by e.act) h
+submissions_of h = flat_map (λ x. accepted_by x.act) h
 
 abbrev pub dialed_by : ConnNo → Act → List Target
 dialed_by c (Dial conn target) = if conn.0 == c.0 then target ∷ [] else []
@@ -57,14 +56,14 @@ dialed_by c _ = []
 
 -- where a connection was dialed
 abbrev pub targets_of : List Entry → ConnNo → List Target
-targets_of h c = flat_map (λ e. dialed_by c e.act) h
+targets_of h c = flat_map (λ x. dialed_by c x.act) h
 
 abbrev pub marks_by : ConnNo → Act → List OrderMark
 marks_by c (Orders conn sent orders) = if conn.0 == c.0 then orders else []
 marks_by c _ = []
 
 abbrev pub marks_of : List Entry → ConnNo → List OrderMark
-marks_of h c = flat_map (λ e. marks_by c e.act) h
+marks_of h c = flat_map (λ x. marks_by c x.act) h
 
 abbrev pub start_to : ExchangeNo → StreamNo → Submission → Option Target → List Order
 start_to e r ask None = []
@@ -107,9 +106,9 @@ pub record Own : Type 0 where
 
 unfoldable pub own_from : List Entry → CallerNo → List Entry → List Own
 own_from before who [] = []
-own_from before who (e ∷ es) =
-    if e.who.0 == who.0 then record { entry = e; orders = given_by before e.act } ∷ own_from (before ++ e ∷ []) who es
-    else own_from (before ++ e ∷ []) who es
+own_from before who (x ∷ xs) =
+    if x.who.0 == who.0 then record { entry = x; orders = given_by before x.act } ∷ own_from (before ++ x ∷ []) who xs
+    else own_from (before ++ x ∷ []) who xs
 
 -- what one caller says in a history
 abbrev pub own_of : List Entry → CallerNo → List Own
@@ -119,7 +118,7 @@ own_of h who = own_from [] who h
 
 -- after this many entries the exchange has the lease on this stream
 abbrev pub IsLeasedAfter : Config → List Entry → ExchangeNo → ConnNo → StreamNo → ℕ → Type 0
-IsLeasedAfter config h e c r n = (x : Exchange) × (numbered e.0 (run config (take n h)).exchanges ≡ Some x) × IsTrue (is_at c r x.status)
+IsLeasedAfter config h e c r n = (exchange : Exchange) × (numbered e.0 (run config (take n h)).exchanges ≡ Some exchange) × IsTrue (is_at c r exchange.status)
 
 -- the lease of that entry lasts to the end, or to the entry at this place
 abbrev pub LastsTo : Config → List Entry → ExchangeNo → ConnNo → StreamNo → ℕ → Option ℕ → Type 0
@@ -144,7 +143,7 @@ hands_by c r _ = false
 
 -- the entry at this place hands the start of the stream to its connection
 abbrev pub IsHandingOf : List Entry → ConnNo → StreamNo → ℕ → Type 0
-IsHandingOf h c r place = (e : Entry) × (numbered place h ≡ Some e) × IsTrue (hands_by c r e.act)
+IsHandingOf h c r place = (x : Entry) × (numbered place h ≡ Some x) × IsTrue (hands_by c r x.act)
 
 abbrev pub is_close : OrderMark → Bool
 is_close (mark.Start e r) = false
@@ -177,4 +176,4 @@ pub record IsOverOf (h : List Entry) (c : ConnNo) (r : StreamNo) (place : ℕ) :
   pub entry : Entry
   pub is_entry : numbered place h ≡ Some entry
   pub over : IsTrue (is_over_by c r entry.act)
-  pub first : (other : ℕ) (e : Entry) → handing < other → other < place → numbered other h ≡ Some e → ¬ IsTrue (is_over_by c r e.act)
+  pub first : (other : ℕ) (x : Entry) → handing < other → other < place → numbered other h ≡ Some x → ¬ IsTrue (is_over_by c r x.act)

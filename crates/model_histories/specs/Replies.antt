@@ -67,8 +67,8 @@ own_exchange s who e = of_caller who (numbered e.0 s.exchanges)
 
 abbrev pub IsCancelReply : AbstractPool → CallerNo → ExchangeNo → CancelReply → Type 0
 IsCancelReply s who e cancel.Unknown = own_exchange s who e ≡ None
-IsCancelReply s who e cancel.Ended = IsSomeAnd (own_exchange s who e) (λ x. IsTrue (has_ended x.status))
-IsCancelReply s who e cancel.Cancelled = IsSomeAnd (own_exchange s who e) (λ x. ¬ IsTrue (has_ended x.status))
+IsCancelReply s who e cancel.Ended = IsSomeAnd (own_exchange s who e) (λ exchange. IsTrue (has_ended exchange.status))
+IsCancelReply s who e cancel.Cancelled = IsSomeAnd (own_exchange s who e) (λ exchange. ¬ IsTrue (has_ended exchange.status))
 
 abbrev pub cancel_reply_by : Option Exchange → CancelReply
 cancel_reply_by None = cancel.Unknown
@@ -79,8 +79,8 @@ cancel_reply s who e = cancel_reply_by (own_exchange s who e)
 
 abbrev pub IsChangeReply : AbstractPool → CallerNo → ExchangeNo → ChangeReply → Type 0
 IsChangeReply s who e change.Unknown = own_exchange s who e ≡ None
-IsChangeReply s who e change.Ended = IsSomeAnd (own_exchange s who e) (λ x. IsTrue (has_ended x.status))
-IsChangeReply s who e change.Changed = IsSomeAnd (own_exchange s who e) (λ x. ¬ IsTrue (has_ended x.status))
+IsChangeReply s who e change.Ended = IsSomeAnd (own_exchange s who e) (λ exchange. IsTrue (has_ended exchange.status))
+IsChangeReply s who e change.Changed = IsSomeAnd (own_exchange s who e) (λ exchange. ¬ IsTrue (has_ended exchange.status))
 
 abbrev pub change_reply_by : Option Exchange → ChangeReply
 change_reply_by None = change.Unknown

@@ -39,7 +39,7 @@ HoldsAsStateSays = (config : Config) (h : List Entry) (who : CallerNo) (c : Conn
 
 -- the connection is this caller's and was opened, and the octets sent don't fall
 abbrev pub MayWorkAt : AbstractPool → CallerNo → ConnNo → ℕ → Type 0
-MayWorkAt s who c sent = IsSomeAnd (numbered c.0 s.connections) (λ x. IsWorkersEntry x who sent × IsTrue (is_busy x.phase))
+MayWorkAt s who c sent = IsSomeAnd (numbered c.0 s.connections) (λ connection. IsWorkersEntry connection who sent × IsTrue (is_busy connection.phase))
 
 -- in each history, what a caller may report by its own entries alone is what is legal for it at the state
 abbrev pub ReportsAsStateSays : Type 0

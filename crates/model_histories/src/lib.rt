@@ -7,5 +7,6 @@ pub mod laws;
 pub mod legal;
 mod port;
 pub mod replies;
+pub mod reply_laws;
 
 pub use port::PoolPort;

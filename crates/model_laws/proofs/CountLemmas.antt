@@ -13,7 +13,7 @@ use Rattle.net_base.specs.declared.target.Target.{Target}
 use Rattle.net_base.specs.declared.target.Via.{Via}
 use Rattle.net_base.specs.declared.target.Via.TheVariants as via
 use Rattle.partition_keys.specs.declared.group.GroupKey.{GroupKey}
-use Rattle.model_changes.specs.Connections.{closing, without_stream, without_start, without_exchange, new_connection, dialing_by, after_opened, with_start, with_taken, with_limit, after_too_large, after_goaway, gone, after_shutdown, with_sent}
+use Rattle.model_changes.specs.Connections.{closing, without_stream, without_start, without_exchange, new_connection, dialing_by, after_opened, with_start, with_taken, with_limit, after_large_answer, going_away, gone, after_shutdown, with_sent}
 use Rattle.model_laws.proofs.PresentLemmas.{wanted_there, dialing_there, open_there, busy_there, out_phase, out_there, out_closing, out_without_stream, out_without_start, out_without_exchange, out_with_start, out_opened, out_after_too_large, out_after_goaway, out_gone, out_after_shutdown, out_answered, AddsNone, adds_same, adds_trans, adds_edit, adds_map}
 use Rattle.model_laws.proofs.RoomLemmas.{AreWithin, within_adds, within_further, room_below, planned_within}
 use Rattle.model_histories.proofs.EditLemmas.{edit_here}
@@ -24,7 +24,10 @@ use Rattle.model_histories.specs.Replies.{IsPreconnectReply, IsDial}
 use Rattle.model_settling.specs.Counts.{is_present_in, count_total, count_in_group}
 use Rattle.model_settling.specs.Room.{is_eligible, has_room, planned}
 use Rattle.model_settling.specs.Settling.{IsDue, IsAssign, IsWant, can_use, can_open}
-use Rattle.model_steps.specs.After.{noted, after_submit, released_lease, released_by, released, after_cancel, after_reprioritise, after_preconnect, after_resolved, after_network, after_shut, after_dial, after_orders, after_useless, after_open_of, after_open, connection_after_answer, after_answered, after_leases, after_alt_seen, after_report, is_dial_failed, after_failed_dial, after_closed, after_expire, after_lapse, after_assign, wanted_connection, after_want_of, after_want, after_evict, sent_noted, after_act, after}
+use Rattle.model_steps.specs.After.{noted, after_submit, released_lease, released_by, released, after_cancel, after_reprioritise, after_preconnect, after_resolved, after_network, after_shut, after_dial, after_orders, connection_after_answer, after_leases, after_alt_seen, after_report, after_expire, after_lapse, after_assign, wanted_connection, after_want_of, after_want, after_evict, sent_noted, after_act, after}
+use Rattle.model_steps.specs.Opened.{after_useless, after_open_of, after_open}
+use Rattle.model_steps.specs.Answered.{after_answered}
+use Rattle.model_steps.specs.Lost.{is_dial_failed, after_failed_dial, after_closed}
 use Rattle.model_authority.proofs.NumberLemmas.{value_and, passing}
 use Rattle.model_authority.specs.Lists.{numbered, edit}
 use Rattle.model_authority.specs.Statuses.{is_wanted, is_open, is_gone}
@@ -105,10 +108,10 @@ adds_report s conn act (report.Answered r response keep alt proof) there =
     adds_edit conn.0 (connection_after_answer s conn r keep act) s.connections (λ x is_item. out_answered s conn r keep act x)
 adds_report s conn act (report.Refused r) there = adds_edit conn.0 (without_stream s.latest r) s.connections (λ x is_item. out_without_stream s.latest r x)
 adds_report s conn act (report.Reset r code) there = adds_edit conn.0 (without_stream s.latest r) s.connections (λ x is_item. out_without_stream s.latest r x)
-adds_report s conn act (report.TooLarge r) there = adds_edit conn.0 (after_too_large s.latest r) s.connections (λ x is_item. out_after_too_large s.latest r x)
+adds_report s conn act (report.TooLarge r) there = adds_edit conn.0 (after_large_answer s.latest r) s.connections (λ x is_item. out_after_too_large s.latest r x)
 adds_report s conn act (report.StreamClosed r) there = adds_edit conn.0 (without_stream s.latest r) s.connections (λ x is_item. out_without_stream s.latest r x)
 adds_report s conn act (report.Goaway last) there =
-    adds_edit conn.0 (after_goaway s.latest conn s.exchanges last) s.connections (λ x is_item. out_after_goaway s.latest conn s.exchanges last x)
+    adds_edit conn.0 (going_away s.latest conn s.exchanges last) s.connections (λ x is_item. out_after_goaway s.latest conn s.exchanges last x)
 adds_report s conn act (report.AltSeen origin alt) there = by (numbered conn.0 s.connections)
   where
     by : (o : Option Connection) → AddsNone s.connections (after_alt_seen s origin alt o).connections

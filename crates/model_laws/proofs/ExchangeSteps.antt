@@ -1,25 +1,33 @@
 -- What one step of an entry leaves of an exchange: that its end stays, that it waits again only by a move, how often it moved, and that it
 -- was sent again.
-use Rattle.std.proofs.Common.{◌≡◌, ◌+◌, ◌<◌, ◌⊎◌, ℕ, List, [], ◌∷◌, ◌++◌, Option, Some, None, true, false, inl, inr, refl, ap, subst, ◌∙◌, map}
-use Rattle.std.specs.Prelude.{◌&&◌, ◌==◌, nat_le}
+use Rattle.std.proofs.Common.{◌≡◌, ◌+◌, ◌<◌, ◌⊎◌, ℕ, List, [], ◌∷◌, ◌++◌, Option, Some, None, Bool, true, false, inl, inr, refl, ap, subst, ◌∙◌, map}
+use Rattle.std.specs.Prelude.{◌&&◌, ◌==◌}
 use Rattle.std.specs.List.{list_any}
-use Rattle.std.proofs.lemmas.Bool.{cond_both, or_left, leb-false}
+use Rattle.std.proofs.lemmas.Bool.{cond_both, and_parts, and_from, both_ways, or_left, leb-false}
+use Rattle.net_base.specs.declared.end_cause.EndCause.{EndCause}
 use Rattle.net_base.specs.declared.numbers.ConnNo.{ConnNo}
 use Rattle.net_base.specs.declared.numbers.Moment.{Moment}
 use Rattle.net_base.specs.declared.numbers.StreamNo.{StreamNo}
+use Rattle.net_base.specs.declared.response.Response.{Response}
+use Rattle.partition_keys.specs.declared.alternative.AltUpdate.{AltUpdate}
+use Rattle.partition_keys.specs.declared.alternative.Proof.{Proof}
 use Rattle.model_changes.specs.Connections.{is_start_of}
-use Rattle.model_changes.specs.Moves.{lease_moves, may_move}
+use Rattle.model_laws.specs.MoveLaws.{may_move}
+use Rattle.model_histories.proofs.CauseLemmas.{by_moved, by_refused, by_ended_at, by_left_out, by_answered, by_lost}
 use Rattle.model_histories.proofs.EditLemmas.{edit_at, map_at, append_at, each_one}
-use Rattle.model_steps.specs.Exchanges.{with_status, ended_by, with_urgency, timed_out_at, timed_out, ended_unless, ended_if_waiting, moved, marked_by_report, marked_by, ended_at, ended_on, ended_by_report, ended_by_act, lease_after, handed_lease, handed_by}
+use Rattle.model_steps.specs.Exchanges.{with_status, ended_by, with_urgency, timed_out_at, timed_out, ended_unless, ended_if_waiting, moved, handed_lease, handed_by}
+use Rattle.model_steps.specs.Answered.{is_misdirected, as_misdirected, answered}
+use Rattle.model_steps.specs.Goaway.{is_left_out, left_out}
+use Rattle.model_steps.specs.Lost.{may_be_sent, as_retried, lost}
+use Rattle.model_steps.specs.StreamEnds.{refused, ended_at}
 use Rattle.model_authority.specs.Lists.{numbered, edit}
-use Rattle.model_authority.specs.Statuses.{is_waiting, is_leased, has_ended, is_on, is_at, is_handed}
+use Rattle.model_authority.specs.Statuses.{is_waiting, is_leased, has_ended, is_on, is_at, is_handed, is_leased_elsewhere}
 use Rattle.model_values.specs.declared.entry.Act.{Act}
-use Rattle.model_values.specs.declared.entry.Act.TheVariants.{Submit, Cancel, Reprioritise, Preconnect, Resolved, Network, Tick, Shutdown, Dial, Orders, Reported, Closed, Expire, Lapse, Assign, Want, Evict}
+use Rattle.model_values.specs.declared.entry.Act.TheVariants.{Reported, Closed}
 use Rattle.model_values.specs.declared.entry.Way.{Way}
 use Rattle.model_values.specs.declared.order.OrderMark.{OrderMark}
 use Rattle.model_values.specs.declared.outcome.Outcome.{Outcome}
 use Rattle.model_values.specs.declared.outcome.Outcome.TheVariants as outcome
-use Rattle.model_values.specs.declared.report.Report.{Report}
 use Rattle.model_values.specs.declared.report.Report.TheVariants as report
 use Rattle.model_values.specs.declared.state.Exchange.{Exchange}
 use Rattle.model_values.specs.declared.state.Status.{Status}
@@ -32,12 +40,12 @@ waiting_open Waiting h = refl
 waiting_open (Leased c r by handed) h = refl
 waiting_open (Ended how) h = absurd cc
 
-leased_at : (c : ConnNo) (r : StreamNo) (status : Status) → is_at c r status ≡ true → has_ended status ≡ false
+pub leased_at : (c : ConnNo) (r : StreamNo) (status : Status) → is_at c r status ≡ true → has_ended status ≡ false
 leased_at c r Waiting h = refl
 leased_at c r (Leased conn stream by handed) h = refl
 leased_at c r (Ended how) h = absurd cc
 
-leased_on : (c : ConnNo) (status : Status) → is_on c status ≡ true → has_ended status ≡ false
+pub leased_on : (c : ConnNo) (status : Status) → is_on c status ≡ true → has_ended status ≡ false
 leased_on c Waiting h = refl
 leased_on c (Leased conn stream by handed) h = refl
 leased_on c (Ended how) h = absurd cc
@@ -152,138 +160,63 @@ stays_handed F c orders x = record { ended = λ f how h. ap (handed_lease c orde
         (λ t e. e) (λ t e. e) w
     waits (Ended how) w = w
 
--- ---- the end of a lease
+-- ---- what a worker's entry makes of an exchange with a lease
 
-stays_ended_at : (F : Type 0) (c : ConnNo) (r : StreamNo) (how : Outcome) (x : Exchange) → Stays F x (ended_at c r how x)
-stays_ended_at F c r how x =
-    cond_both (is_at c r x.status) (ended_by how x) x (Stays F x) (λ t. stays_ended_by F how x (λ f. leased_at c r x.status t)) (λ e. stays_refl F x)
+pub left_open : (c : ConnNo) (last : StreamNo) (status : Status) → is_left_out c last status ≡ true → has_ended status ≡ false
+left_open c last Waiting h = refl
+left_open c last (Leased conn stream by handed) h = refl
+left_open c last (Ended how) h = absurd cc
 
-stays_ended_on : (F : Type 0) (c : ConnNo) (how : Outcome) (x : Exchange) → Stays F x (ended_on c how x)
-stays_ended_on F c how x =
-    cond_both (is_on c x.status) (ended_by how x) x (Stays F x) (λ t. stays_ended_by F how x (λ f. leased_on c x.status t)) (λ e. stays_refl F x)
+becomes_refl : (F : Type 0) (act : Act) (x : Exchange) → Becomes F act x x
+becomes_refl F act x = becomes_stays F act x x (stays_refl F x)
 
-stays_by_report : (F : Type 0) (c : ConnNo) (r : Report) (x : Exchange) → Stays F x (ended_by_report c r x)
-stays_by_report F c (report.Opened id) x = stays_refl F x
-stays_by_report F c (report.Limit n) x = stays_refl F x
-stays_by_report F c (report.Answered r response keep alt proof) x = stays_ended_at F c r (outcome.Answered response) x
-stays_by_report F c (report.Refused r) x = stays_refl F x
-stays_by_report F c (report.Reset r code) x = stays_ended_at F c r (outcome.Reset code) x
-stays_by_report F c (report.TooLarge r) x = stays_ended_at F c r outcome.TooLarge x
-stays_by_report F c (report.StreamClosed r) x = stays_refl F x
-stays_by_report F c (report.Goaway last) x = stays_refl F x
-stays_by_report F c (report.AltSeen origin alt) x = stays_refl F x
-
-stays_by_act : (F : Type 0) (act : Act) (x : Exchange) → Stays F x (ended_by_act act x)
-stays_by_act F (Submit ask reply) x = stays_refl F x
-stays_by_act F (Cancel exchange reply) x = stays_refl F x
-stays_by_act F (Reprioritise exchange urgency reply) x = stays_refl F x
-stays_by_act F (Preconnect key credentials origin count reply) x = stays_refl F x
-stays_by_act F (Resolved key host addresses reply) x = stays_refl F x
-stays_by_act F Network x = stays_refl F x
-stays_by_act F Tick x = stays_refl F x
-stays_by_act F (Shutdown reply) x = stays_refl F x
-stays_by_act F (Dial conn target) x = stays_refl F x
-stays_by_act F (Orders conn sent orders) x = stays_refl F x
-stays_by_act F (Reported conn sent report) x = stays_by_report F conn report x
-stays_by_act F (Closed conn sent cause heard) x = stays_ended_on F conn (outcome.Lost conn cause) x
-stays_by_act F (Expire exchange) x = stays_refl F x
-stays_by_act F (Lapse exchange) x = stays_refl F x
-stays_by_act F (Assign exchange conn r by) x = stays_refl F x
-stays_by_act F (Want exchange conn target) x = stays_refl F x
-stays_by_act F (Evict conn) x = stays_refl F x
-
--- ---- a move
-
-marked-moves_report : (r : Report) (x : Exchange) → (marked_by_report r x).moves ≡ x.moves
-marked-moves_report (report.Opened id) x = refl
-marked-moves_report (report.Limit n) x = refl
-marked-moves_report (report.Answered r response keep alt proof) x = refl
-marked-moves_report (report.Refused r) x = refl
-marked-moves_report (report.Reset r code) x = refl
-marked-moves_report (report.TooLarge r) x = refl
-marked-moves_report (report.StreamClosed r) x = refl
-marked-moves_report (report.Goaway last) x = refl
-marked-moves_report (report.AltSeen origin alt) x = refl
-
-marked-moves : (act : Act) (x : Exchange) → (marked_by act x).moves ≡ x.moves
-marked-moves (Submit ask reply) x = refl
-marked-moves (Cancel exchange reply) x = refl
-marked-moves (Reprioritise exchange urgency reply) x = refl
-marked-moves (Preconnect key credentials origin count reply) x = refl
-marked-moves (Resolved key host addresses reply) x = refl
-marked-moves Network x = refl
-marked-moves Tick x = refl
-marked-moves (Shutdown reply) x = refl
-marked-moves (Dial conn target) x = refl
-marked-moves (Orders conn sent orders) x = refl
-marked-moves (Reported conn sent report) x = marked-moves_report report x
-marked-moves (Closed conn sent cause heard) x = refl
-marked-moves (Expire exchange) x = refl
-marked-moves (Lapse exchange) x = refl
-marked-moves (Assign exchange conn r by) x = refl
-marked-moves (Want exchange conn target) x = refl
-marked-moves (Evict conn) x = refl
-
-marked-retried_report : (r : Report) (x : Exchange) → (marked_by_report r x).retried ≡ x.retried
-marked-retried_report (report.Opened id) x = refl
-marked-retried_report (report.Limit n) x = refl
-marked-retried_report (report.Answered r response keep alt proof) x = refl
-marked-retried_report (report.Refused r) x = refl
-marked-retried_report (report.Reset r code) x = refl
-marked-retried_report (report.TooLarge r) x = refl
-marked-retried_report (report.StreamClosed r) x = refl
-marked-retried_report (report.Goaway last) x = refl
-marked-retried_report (report.AltSeen origin alt) x = refl
-
-marked_retried : (act : Act) (x : Exchange) → x.retried ≡ true → (marked_by act x).retried ≡ true
-marked_retried (Submit ask reply) x t = t
-marked_retried (Cancel exchange reply) x t = t
-marked_retried (Reprioritise exchange urgency reply) x t = t
-marked_retried (Preconnect key credentials origin count reply) x t = t
-marked_retried (Resolved key host addresses reply) x t = t
-marked_retried Network x t = t
-marked_retried Tick x t = t
-marked_retried (Shutdown reply) x t = t
-marked_retried (Dial conn target) x t = t
-marked_retried (Orders conn sent orders) x t = t
-marked_retried (Reported conn sent report) x t = marked-retried_report report x ∙ t
-marked_retried (Closed conn sent cause heard) x t = or_left x.retried (is_handed x.status) t
-marked_retried (Expire exchange) x t = t
-marked_retried (Lapse exchange) x t = t
-marked_retried (Assign exchange conn r by) x t = t
-marked_retried (Want exchange conn target) x t = t
-marked_retried (Evict conn) x t = t
-
--- one that may move has no end
-movable_open : (act : Act) (x : Exchange) → may_move x act ≡ true → has_ended x.status ≡ false
-unfolding may_move
-movable_open act x h = by x.status h
-  where
-    by : (status : Status) → lease_moves x status act ≡ true → has_ended status ≡ false
-    by Waiting k = refl
-    by (Leased c r way handed) k = refl
-    by (Ended how) k = absurd cc
+becomes_ended_by : (F : Type 0) (act : Act) (how : Outcome) (x : Exchange) → has_ended x.status ≡ false → Becomes F act x (ended_by how x)
+becomes_ended_by F act how x no_end = becomes_stays F act x (ended_by how x) (stays_ended_by F how x (λ f. no_end))
 
 -- m is the exchange with its marks
-becomes_moved : (F : Type 0) (act : Act) (x m : Exchange) → may_move x act ≡ true → m.moves ≡ x.moves → (x.retried ≡ true → m.retried ≡ true) → Becomes F act x (moved m)
-unfolding moved
-becomes_moved F act x m may same kept =
-    let waiting : Exchange = record m { status = Waiting; moves = m.moves + 1 } in
-    cond_both (nat_le 5 m.moves) (ended_by outcome.TooManyMoves m) waiting (Becomes F act x)
-    (λ t. record { ended = λ f how h. absurd (has_end how h); again = λ l w. absurd cc; moves = inl same; retried = kept })
+becomes_moved : (F : Type 0) (act : Act) (x m : Exchange) → may_move x act ≡ true → has_ended x.status ≡ false → m.moves ≡ x.moves → (x.retried ≡ true → m.retried ≡ true) →
+    Becomes F act x (moved m)
+becomes_moved F act x m may no_end same kept =
+    by_moved (Becomes F act x) m (record { ended = λ f how h. absurd (has_end how h); again = λ l w. absurd cc; moves = inl same; retried = kept })
     (λ e. record { ended = λ f how h. absurd (has_end how h); again = λ l w. (may, once); moves = inr (once, subst (λ n. n < 5) same (leb-false 5 m.moves e)); retried = kept })
   where
     once : m.moves + 1 ≡ x.moves + 1
     once = ap (λ n. n + 1) same
 
     has_end : (how : Outcome) → x.status ≡ Ended how → ⊥
-    has_end how h = let n = movable_open act x may in let e : has_ended x.status ≡ true = ap (λ (t : Status). has_ended t) h in absurd cc
+    has_end how h = let e : has_ended x.status ≡ true = ap (λ (t : Status). has_ended t) h in both_ways (has_ended x.status) no_end e
 
-pub becomes_lease : (F : Type 0) (act : Act) (x : Exchange) → Becomes F act x (lease_after act x)
-unfolding lease_after
-becomes_lease F act x =
-    cond_both (may_move x act) (moved (marked_by act x)) (ended_by_act act x) (Becomes F act x)
-    (λ may. becomes_moved F act x (marked_by act x) may (marked-moves act x) (marked_retried act x)) (λ e. becomes_stays F act x (ended_by_act act x) (stays_by_act F act x))
+pub becomes_answered : (F : Type 0) (c : ConnNo) (sent : ℕ) (r : StreamNo) (response : Response) (keep : Bool) (alt : AltUpdate) (proof : Proof) (x : Exchange) →
+    Becomes F (Reported c sent (report.Answered r response keep alt proof)) x (answered c r response x)
+becomes_answered F c sent r response keep alt proof x =
+    let act : Act = Reported c sent (report.Answered r response keep alt proof) in
+    by_answered (Becomes F act x) c r response x (λ t m. becomes_moved F act x (as_misdirected x) (may t m) (leased_at c r x.status t) refl (λ k. k))
+    (λ t. becomes_ended_by F act (outcome.Answered response) x (leased_at c r x.status t)) (becomes_refl F act x)
+  where
+    may : is_at c r x.status ≡ true → is_misdirected response x ≡ true → is_at c r x.status && response.status == 421 && is_leased_elsewhere x.status ≡ true
+    may t m =
+        let parts = and_parts (response.status == 421) (is_leased_elsewhere x.status) m in
+        and_from (is_at c r x.status && response.status == 421) (is_leased_elsewhere x.status) (and_from (is_at c r x.status) (response.status == 421) t parts.0) parts.1
+
+pub becomes_refused : (F : Type 0) (c : ConnNo) (sent : ℕ) (r : StreamNo) (x : Exchange) → Becomes F (Reported c sent (report.Refused r)) x (refused c r x)
+becomes_refused F c sent r x =
+    let act : Act = Reported c sent (report.Refused r) in
+    by_refused (Becomes F act x) c r x (λ t. becomes_moved F act x x t (leased_at c r x.status t) refl (λ k. k)) (becomes_refl F act x)
+
+pub becomes_ended_at : (F : Type 0) (act : Act) (c : ConnNo) (r : StreamNo) (how : Outcome) (x : Exchange) → Becomes F act x (ended_at c r how x)
+becomes_ended_at F act c r how x = by_ended_at (Becomes F act x) c r how x (λ t. becomes_ended_by F act how x (leased_at c r x.status t)) (becomes_refl F act x)
+
+pub becomes_left_out : (F : Type 0) (c : ConnNo) (sent : ℕ) (last : StreamNo) (x : Exchange) → Becomes F (Reported c sent (report.Goaway last)) x (left_out c last x)
+becomes_left_out F c sent last x =
+    let act : Act = Reported c sent (report.Goaway last) in
+    by_left_out (Becomes F act x) c last x (λ t. becomes_moved F act x x t (left_open c last x.status t) refl (λ k. k)) (becomes_refl F act x)
+
+pub becomes_lost : (F : Type 0) (c : ConnNo) (sent : ℕ) (cause : EndCause) (heard : List StreamNo) (x : Exchange) → Becomes F (Closed c sent cause heard) x (lost c cause heard x)
+becomes_lost F c sent cause heard x =
+    let act : Act = Closed c sent cause heard in
+    by_lost (Becomes F act x) c cause heard x
+    (λ t m. becomes_moved F act x (as_retried x) (and_from (is_on c x.status) (may_be_sent x heard x.status) t m) (leased_on c x.status t) refl (λ k. or_left x.retried (is_handed x.status) k))
+    (λ t f. becomes_ended_by F act (outcome.Lost c cause) x (leased_on c x.status t)) (λ f. becomes_refl F act x)
 
 -- ---- lists of exchanges
 
@@ -313,5 +246,6 @@ become_still F act xs ys stay n = becomes_stays_at F act (numbered n xs) (number
 pub become_same : (F : Type 0) (act : Act) (xs : List Exchange) (n : ℕ) → BecomesAt F act (numbered n xs) (numbered n xs)
 become_same F act xs n = become_still F act xs xs (stay_same F xs) n
 
-pub become_leases : (F : Type 0) (act : Act) (xs : List Exchange) (n : ℕ) → BecomesAt F act (numbered n xs) (numbered n (map (lease_after act) xs))
-become_leases F act xs n = map_at (BecomesAt F act) n (lease_after act) xs tt (becomes_lease F act)
+pub become_map : (F : Type 0) (act : Act) (f : Exchange → Exchange) (xs : List Exchange) → ((x : Exchange) → Becomes F act x (f x)) → (n : ℕ) →
+    BecomesAt F act (numbered n xs) (numbered n (map f xs))
+become_map F act f xs becomes n = map_at (BecomesAt F act) n f xs tt becomes

@@ -3,25 +3,29 @@ use Rattle.std.proofs.Common.{◌≡◌, ℕ, List, Option, Some, None, Bool, tr
 use Rattle.std.specs.Prelude.{◌==◌}
 use Rattle.std.proofs.lemmas.Bool.{cond_both, and_parts, not-true, false_from_ne_true}
 use Rattle.net_base.specs.declared.end_cause.EndCause.{EndCause}
-use Rattle.net_base.specs.declared.identity.Identity.{Identity}
 use Rattle.net_base.specs.declared.numbers.CallerNo.{CallerNo}
 use Rattle.net_base.specs.declared.numbers.ConnNo.{ConnNo}
 use Rattle.net_base.specs.declared.numbers.ExchangeNo.{ExchangeNo}
 use Rattle.net_base.specs.declared.numbers.Moment.{Moment}
-use Rattle.net_base.specs.declared.target.Target.{Target}
+use Rattle.net_base.specs.declared.numbers.StreamNo.{StreamNo}
 use Rattle.net_base.specs.declared.target.Via.{Via}
 use Rattle.net_base.specs.declared.target.Via.TheVariants as via
 use Rattle.partition_keys.specs.declared.group.GroupKey.{GroupKey}
 use Rattle.partition_keys.specs.declared.key.PartitionKey.{PartitionKey}
-use Rattle.model_changes.specs.Connections.{gone}
-use Rattle.model_laws.proofs.ExchangeSteps.{Stays, BecomesAt, AllStay, waiting_open, becomes_on_at, stays_leased, stays_ended_by, stays_timed_out, stays_ended_unless, stays_ended_if_waiting, stays_with_urgency, stays_handed, stay_same, stay_edit, stay_map, stay_push, become_still, become_same, become_leases}
+use Rattle.model_histories.proofs.CauseLemmas.{by_identity, by_open, by_alt_seen, by_closed, by_want}
+use Rattle.model_laws.proofs.ExchangeSteps.{Stays, BecomesAt, AllStay, waiting_open, becomes_on_at, stays_leased, stays_ended_by, stays_timed_out, stays_ended_unless, stays_ended_if_waiting, stays_with_urgency, stays_handed, stay_same, stay_edit, stay_map, stay_push, become_still, become_same, becomes_answered, becomes_refused, becomes_ended_at, becomes_left_out, becomes_lost, become_map}
 use Rattle.model_histories.specs.Histories.{MayStand}
 use Rattle.model_histories.specs.Legal.{IsReply}
 use Rattle.model_histories.specs.Replies.{of_caller, own_exchange}
 use Rattle.model_settling.specs.Room.{is_eligible}
 use Rattle.model_settling.specs.Settling.{has_expired, has_lapsed, can_start, IsDue}
-use Rattle.model_steps.specs.After.{noted, after_submit, after_cancel, after_reprioritise, after_preconnect, after_resolved, after_network, after_shut, after_dial, after_orders, after_useless, is_useless, after_identity_of, after_open_of, after_open, after_answered, after_leases, after_alt_seen, after_report, is_dial_failed, after_failed_dial, after_closed, after_expire, after_lapse, after_assign, after_want_of, after_want, after_evict, sent_noted, after_act, after}
-use Rattle.model_steps.specs.Exchanges.{new_exchange, with_status, ended_by, with_urgency, timed_out, ended_unless, ended_if_waiting, lease_after, handed_by}
+use Rattle.model_steps.specs.After.{noted, after_submit, after_cancel, after_reprioritise, after_preconnect, after_resolved, after_network, after_shut, after_dial, after_orders, after_report, after_expire, after_lapse, after_assign, after_evict, sent_noted, after_act, after}
+use Rattle.model_steps.specs.Opened.{after_useless, after_open}
+use Rattle.model_steps.specs.Answered.{answered, after_answered}
+use Rattle.model_steps.specs.Goaway.{left_out}
+use Rattle.model_steps.specs.Lost.{lost, after_lost, after_closed}
+use Rattle.model_steps.specs.StreamEnds.{refused, ended_at}
+use Rattle.model_steps.specs.Exchanges.{new_exchange, with_status, ended_by, with_urgency, timed_out, ended_unless, ended_if_waiting, handed_by}
 use Rattle.model_authority.proofs.NumberLemmas.{and_value, passing}
 use Rattle.model_authority.specs.Lists.{numbered, edit, Passes}
 use Rattle.model_authority.specs.Statuses.{has_ended}
@@ -46,7 +50,6 @@ use Rattle.model_values.specs.declared.reply.SubmitReply.TheVariants as submit
 use Rattle.model_values.specs.declared.report.Report.{Report}
 use Rattle.model_values.specs.declared.report.Report.TheVariants as report
 use Rattle.model_values.specs.declared.state.AbstractPool.{AbstractPool}
-use Rattle.model_values.specs.declared.state.Connection.{Connection}
 use Rattle.model_values.specs.declared.state.Exchange.{Exchange}
 use Rattle.model_values.specs.declared.state.Status.TheVariants.{Leased}
 use Rattle.model_values.specs.declared.submission.Submission.{Submission}
@@ -61,25 +64,11 @@ no_end s e x is_item h = subst (λ o. IsSomeAnd o (λ (y : Exchange). has_ended 
 
 -- the exchange that the act ends, or gives a lease, has no end yet
 abbrev pub Fits : AbstractPool → Act → Type 0
-Fits s (Submit ask reply) = Unit {0}
-Fits s (Cancel e cancel.Unknown) = Unit {0}
-Fits s (Cancel e cancel.Ended) = Unit {0}
 Fits s (Cancel e cancel.Cancelled) = HasNoEnd s e
-Fits s (Reprioritise e urgency reply) = Unit {0}
-Fits s (Preconnect key credentials origin count reply) = Unit {0}
-Fits s (Resolved key host addresses reply) = Unit {0}
-Fits s Network = Unit {0}
-Fits s Tick = Unit {0}
-Fits s (Shutdown reply) = Unit {0}
-Fits s (Dial c target) = Unit {0}
-Fits s (Orders c sent orders) = Unit {0}
-Fits s (Reported c sent report) = Unit {0}
-Fits s (Closed c sent cause heard) = Unit {0}
 Fits s (Expire e) = HasNoEnd s e
 Fits s (Lapse e) = HasNoEnd s e
 Fits s (Assign e c r by) = HasNoEnd s e
-Fits s (Want e c t) = Unit {0}
-Fits s (Evict c) = Unit {0}
+Fits s _ = Unit {0}
 
 -- ---- reports and ends
 
@@ -89,55 +78,45 @@ stay_useless F s g None how via.Direct = stay_same F s.exchanges
 stay_useless F s g (Some e) how via.Direct = stay_edit F e.0 (ended_if_waiting how) s.exchanges (λ x is_item. stays_ended_if_waiting F how x)
 stay_useless F s g wanted_for how (via.Alternative p) = stay_same F s.exchanges
 
-stay_identity : (F : Type 0) (s : AbstractPool) (conn : ConnNo) (g : GroupKey) (wanted_for : Option ExchangeNo) (id : Identity) →
-    AllStay F s.exchanges (after_identity_of s conn g wanted_for id).exchanges
-stay_identity F s conn g wanted_for id =
-    let useless = after_useless s g wanted_for (outcome.Identity conn) g.target.via in
-    cond_both (is_useless s g id) useless s (λ (t : AbstractPool). AllStay F s.exchanges t.exchanges)
-    (λ u. stay_useless F s g wanted_for (outcome.Identity conn) g.target.via) (λ u. stay_same F s.exchanges)
-
-stay_open : (F : Type 0) (s : AbstractPool) (conn : ConnNo) (id : Identity) → AllStay F s.exchanges (after_open s conn id).exchanges
-unfolding after_open
-stay_open F s conn id = by (numbered conn.0 s.connections)
-  where
-    by : (o : Option Connection) → AllStay F s.exchanges (after_open_of s conn id o).exchanges
-    by None = stay_same F s.exchanges
-    by (Some c) = stay_identity F s conn c.group c.wanted_for id
-
-become_report : (F : Type 0) (s : AbstractPool) (conn : ConnNo) (act : Act) (r : Report) (n : ℕ) →
-    BecomesAt F act (numbered n s.exchanges) (numbered n (after_report s conn act r).exchanges)
+become_report : (F : Type 0) (s : AbstractPool) (conn : ConnNo) (sent : ℕ) (r : Report) (n : ℕ) →
+    BecomesAt F (Reported conn sent r) (numbered n s.exchanges) (numbered n (after_report s conn r).exchanges)
 unfolding after_answered
-become_report F s conn act (report.Opened id) n = become_still F act s.exchanges (after_open s conn id).exchanges (stay_open F s conn id) n
-become_report F s conn act (report.Limit m) n = become_same F act s.exchanges n
-become_report F s conn act (report.Answered r response keep alt proof) n = become_leases F act s.exchanges n
-become_report F s conn act (report.Refused r) n = become_leases F act s.exchanges n
-become_report F s conn act (report.Reset r code) n = become_leases F act s.exchanges n
-become_report F s conn act (report.TooLarge r) n = become_leases F act s.exchanges n
-become_report F s conn act (report.StreamClosed r) n = become_same F act s.exchanges n
-become_report F s conn act (report.Goaway last) n = become_leases F act s.exchanges n
-become_report F s conn act (report.AltSeen origin alt) n = become_still F act s.exchanges (after_alt_seen s origin alt (numbered conn.0 s.connections)).exchanges (by (numbered conn.0 s.connections)) n
-  where
-    by : (o : Option Connection) → AllStay F s.exchanges (after_alt_seen s origin alt o).exchanges
-    by None = stay_same F s.exchanges
-    by (Some c) = stay_same F s.exchanges
+become_report F s conn sent (report.Opened id) n =
+    let P : AbstractPool → Type 0 = λ t. AllStay F s.exchanges t.exchanges in
+    let same : AllStay F s.exchanges s.exchanges = stay_same F s.exchanges in
+    become_still F (Reported conn sent (report.Opened id)) s.exchanges (after_open s conn id).exchanges
+    (by_open P s conn id
+    (λ c. by_identity P s conn c.group c.wanted_for id (stay_useless F s c.group c.wanted_for (outcome.Identity conn) c.group.target.via) same) same) n
+become_report F s conn sent (report.Answered r response keep alt proof) n =
+    become_map F (Reported conn sent (report.Answered r response keep alt proof)) (answered conn r response) s.exchanges (becomes_answered F conn sent r response keep alt proof) n
+become_report F s conn sent (report.Refused r) n = become_map F (Reported conn sent (report.Refused r)) (refused conn r) s.exchanges (becomes_refused F conn sent r) n
+become_report F s conn sent (report.Reset r code) n =
+    let act : Act = Reported conn sent (report.Reset r code) in
+    become_map F act (ended_at conn r (outcome.Reset code)) s.exchanges (becomes_ended_at F act conn r (outcome.Reset code)) n
+become_report F s conn sent (report.TooLarge r) n =
+    let act : Act = Reported conn sent (report.TooLarge r) in
+    become_map F act (ended_at conn r outcome.TooLarge) s.exchanges (becomes_ended_at F act conn r outcome.TooLarge) n
+become_report F s conn sent (report.Goaway last) n = become_map F (Reported conn sent (report.Goaway last)) (left_out conn last) s.exchanges (becomes_left_out F conn sent last) n
+become_report F s conn sent (report.Limit m) n = become_same F (Reported conn sent (report.Limit m)) s.exchanges n
+become_report F s conn sent (report.StreamClosed r) n = become_same F (Reported conn sent (report.StreamClosed r)) s.exchanges n
+become_report F s conn sent (report.AltSeen origin alt) n =
+    let same : BecomesAt F (Reported conn sent (report.AltSeen origin alt)) (numbered n s.exchanges) (numbered n s.exchanges) = become_same F (Reported conn sent (report.AltSeen origin alt)) s.exchanges n in
+    by_alt_seen (λ t. BecomesAt F (Reported conn sent (report.AltSeen origin alt)) (numbered n s.exchanges) (numbered n t.exchanges)) s conn origin alt (λ c. same) same
 
 -- what the end of a connection leaves of the exchanges whose leases have moved or ended
-pub stay_closed : (F : Type 0) (s : AbstractPool) (conn : ConnNo) (c : EndCause) (act : Act) → AllStay F (map (lease_after act) s.exchanges) (after_closed s conn c act).exchanges
-unfolding after_closed
-stay_closed F s conn c act =
-    let left : AbstractPool = after_leases s conn act gone in
-    cond_both (is_dial_failed c) (after_failed_dial left conn (numbered conn.0 s.connections)) left (λ (t : AbstractPool). AllStay F (map (lease_after act) s.exchanges) t.exchanges)
-    (λ f. by (numbered conn.0 s.connections)) (λ f. stay_same F left.exchanges)
-  where
-    by : (o : Option Connection) → AllStay F (map (lease_after act) s.exchanges) (after_failed_dial (after_leases s conn act gone) conn o).exchanges
-    by None = stay_same F (map (lease_after act) s.exchanges)
-    by (Some x) = stay_useless F (after_leases s conn act gone) x.group x.wanted_for (outcome.DialFault conn) x.group.target.via
+pub stay_closed : (F : Type 0) (s : AbstractPool) (conn : ConnNo) (cause : EndCause) (heard : List StreamNo) →
+    AllStay F (map (lost conn cause heard) s.exchanges) (after_closed s conn cause heard).exchanges
+stay_closed F s conn cause heard =
+    by_closed (λ t. AllStay F (map (lost conn cause heard) s.exchanges) t.exchanges) s conn cause heard
+    (λ c. stay_useless F (after_lost s conn cause heard) c.group c.wanted_for (outcome.DialFault conn) c.group.target.via) (stay_same F (map (lost conn cause heard) s.exchanges))
 
-become_closed : (F : Type 0) (s : AbstractPool) (conn : ConnNo) (c : EndCause) (act : Act) (n : ℕ) →
-    BecomesAt F act (numbered n s.exchanges) (numbered n (after_closed s conn c act).exchanges)
-become_closed F s conn c act n =
-    becomes_on_at F act (numbered n s.exchanges) (numbered n (map (lease_after act) s.exchanges)) (numbered n (after_closed s conn c act).exchanges)
-    (become_leases F act s.exchanges n) (stay_closed F s conn c act n)
+become_closed : (F : Type 0) (s : AbstractPool) (conn : ConnNo) (sent : ℕ) (cause : EndCause) (heard : List StreamNo) (n : ℕ) →
+    BecomesAt F (Closed conn sent cause heard) (numbered n s.exchanges) (numbered n (after_closed s conn cause heard).exchanges)
+become_closed F s conn sent cause heard n =
+    let act : Act = Closed conn sent cause heard in
+    let f : Exchange → Exchange = lost conn cause heard in
+    becomes_on_at F act (numbered n s.exchanges) (numbered n (map f s.exchanges)) (numbered n (after_closed s conn cause heard).exchanges)
+    (become_map F act f s.exchanges (becomes_lost F conn sent cause heard) n) (stay_closed F s conn cause heard n)
 
 -- ---- acts that move nothing
 
@@ -183,14 +162,6 @@ unfolding after_shut
 stay_shut F s (shut.Closed place) = stay_same F s.exchanges
 stay_shut F s shut.Noted = stay_map F (ended_unless outcome.PoolClosed) s.exchanges (stays_ended_unless F outcome.PoolClosed)
 
-stay_want : (F : Type 0) (s : AbstractPool) (e : ExchangeNo) (t : Target) → AllStay F s.exchanges (after_want s e t).exchanges
-unfolding after_want
-stay_want F s e t = by (numbered e.0 s.exchanges)
-  where
-    by : (o : Option Exchange) → AllStay F s.exchanges (after_want_of s e t o).exchanges
-    by None = stay_same F s.exchanges
-    by (Some x) = stay_same F s.exchanges
-
 -- ---- any act
 
 become_end : (F : Type 0) (act : Act) (s : AbstractPool) (e : ExchangeNo) (f : Exchange → Exchange) → (F → HasNoEnd s e) →
@@ -216,12 +187,14 @@ become_act F s who (Dial c target) fits n = become_same F (Dial c target) s.exch
 become_act F s who (Orders c sent orders) fits n =
     let f : Exchange → Exchange = handed_by c orders in
     become_still F (Orders c sent orders) s.exchanges (map f s.exchanges) (stay_map F f s.exchanges (stays_handed F c orders)) n
-become_act F s who (Reported c sent report) fits n = become_report F (sent_noted s c sent) c (Reported c sent report) report n
-become_act F s who (Closed c sent cause heard) fits n = become_closed F (sent_noted s c sent) c cause (Closed c sent cause heard) n
+become_act F s who (Reported c sent report) fits n = become_report F (sent_noted s c sent) c sent report n
+become_act F s who (Closed c sent cause heard) fits n = become_closed F (sent_noted s c sent) c sent cause heard n
 become_act F s who (Expire e) fits n = become_end F (Expire e) s e timed_out fits (stays_timed_out F) n
 become_act F s who (Lapse e) fits n = become_end F (Lapse e) s e (ended_by outcome.NoAlternative) fits (stays_ended_by F outcome.NoAlternative) n
 become_act F s who (Assign e c r by) fits n = become_end F (Assign e c r by) s e (with_status (Leased c r by false)) fits (stays_leased F c r by) n
-become_act F s who (Want e c t) fits n = become_still F (Want e c t) s.exchanges (after_want s e t).exchanges (stay_want F s e t) n
+become_act F s who (Want e c t) fits n =
+    let same : BecomesAt F (Want e c t) (numbered n s.exchanges) (numbered n s.exchanges) = become_same F (Want e c t) s.exchanges n in
+    by_want (λ u. BecomesAt F (Want e c t) (numbered n s.exchanges) (numbered n u.exchanges)) s e t (λ x. same) same
 become_act F s who (Evict c) fits n = become_same F (Evict c) s.exchanges n
 
 -- ---- any entry that may stand
@@ -244,23 +217,12 @@ starting_open s number x h = waiting_open x.status (and_parts _ _ (and_parts _ _
 
 fits_due : (s : AbstractPool) (m : Moment) (act : Act) → IsDue s act → Fits (noted s m) act
 unfolding noted
-fits_due s m (Submit ask reply) h = absurd h
-fits_due s m (Cancel e reply) h = absurd h
-fits_due s m (Reprioritise e urgency reply) h = absurd h
-fits_due s m (Preconnect key credentials origin count reply) h = absurd h
-fits_due s m (Resolved key host addresses reply) h = absurd h
-fits_due s m Network h = absurd h
-fits_due s m Tick h = absurd h
-fits_due s m (Shutdown reply) h = absurd h
-fits_due s m (Dial c target) h = absurd h
-fits_due s m (Orders c sent orders) h = absurd h
-fits_due s m (Reported c sent report) h = absurd h
-fits_due s m (Closed c sent cause heard) h = absurd h
 fits_due s m (Expire e) h = no_end_of s e (has_expired s) (expired_open s e.0) h.passes
 fits_due s m (Lapse e) h = no_end_of s e (has_lapsed s) (lapsed_open s e.0) h.lowest.passes
 fits_due s m (Assign e c r by) h = no_end_of s e (can_start s) (starting_open s e.0) h.least.passes
 fits_due s m (Want e c t) h = tt
 fits_due s m (Evict c) h = tt
+fits_due s m _ h = absurd h
 
 -- a caller's own exchange is one of the pool's
 own_open : (s : AbstractPool) (who : CallerNo) (e : ExchangeNo) → IsSomeAnd (own_exchange s who e) (λ x. ¬ IsTrue (has_ended x.status)) → HasNoEnd s e
@@ -274,25 +236,11 @@ own_open s who e h = by (numbered e.0 s.exchanges) h
         (λ t l. false_from_ne_true (has_ended x.status) l) (λ f l. absurd l) k
 
 fits_reply : (s : AbstractPool) (who : CallerNo) (act : Act) → IsReply s who act → Fits s act
-fits_reply s who (Submit ask reply) h = tt
-fits_reply s who (Cancel e cancel.Unknown) h = tt
-fits_reply s who (Cancel e cancel.Ended) h = tt
 fits_reply s who (Cancel e cancel.Cancelled) h = own_open s who e h
-fits_reply s who (Reprioritise e urgency reply) h = tt
-fits_reply s who (Preconnect key credentials origin count reply) h = tt
-fits_reply s who (Resolved key host addresses reply) h = tt
-fits_reply s who Network h = tt
-fits_reply s who Tick h = tt
-fits_reply s who (Shutdown reply) h = tt
-fits_reply s who (Dial c target) h = tt
-fits_reply s who (Orders c sent orders) h = tt
-fits_reply s who (Reported c sent report) h = tt
-fits_reply s who (Closed c sent cause heard) h = tt
 fits_reply s who (Expire e) h = absurd h
 fits_reply s who (Lapse e) h = absurd h
 fits_reply s who (Assign e c r by) h = absurd h
-fits_reply s who (Want e c t) h = absurd h
-fits_reply s who (Evict c) h = absurd h
+fits_reply s who _ h = tt
 
 -- where the entry may stand, each end stays
 pub exchange_after : (s : AbstractPool) (e : Entry) (n : ℕ) → BecomesAt (MayStand s e) e.act (numbered n s.exchanges) (numbered n (after s e).exchanges)

@@ -19,7 +19,7 @@ use Rattle.model_authority.specs.Lists.{numbered}
 use Rattle.model_authority.specs.Statuses.{is_waiting, is_wanted, is_open}
 use Rattle.model_authority.specs.Ways.{group_for, has_capacity, has_way, is_usable}
 use Rattle.model_values.specs.declared.entry.Act.{Act}
-use Rattle.model_values.specs.declared.entry.Act.TheVariants.{Submit, Cancel, Reprioritise, Preconnect, Resolved, Network, Tick, Shutdown, Dial, Orders, Reported, Closed, Expire, Lapse, Assign, Want, Evict}
+use Rattle.model_values.specs.declared.entry.Act.TheVariants.{Submit, Preconnect, Dial, Reported, Closed, Expire, Lapse, Assign, Want, Evict}
 use Rattle.model_values.specs.declared.entry.Entry.{Entry}
 use Rattle.model_values.specs.declared.state.AbstractPool.{AbstractPool}
 use Rattle.model_values.specs.declared.state.Connection.{Connection}
@@ -46,22 +46,13 @@ pub record Gives (s : AbstractPool) (c : ConnNo) (r : StreamNo) : Type 0 where
 -- what is used here of an act that may stand
 abbrev pub IsFit : AbstractPool → Act → Type 0
 IsFit s (Submit ask reply) = IsSubmitReply s ask reply
-IsFit s (Cancel e reply) = Unit {0}
-IsFit s (Reprioritise e urgency reply) = Unit {0}
 IsFit s (Preconnect key credentials origin count reply) = IsPreconnectReply s (group_for s key credentials origin) count reply
-IsFit s (Resolved key host addresses reply) = Unit {0}
-IsFit s Network = Unit {0}
-IsFit s Tick = Unit {0}
-IsFit s (Shutdown reply) = Unit {0}
 IsFit s (Dial c target) = IsSomeAnd (numbered c.0 s.connections) (λ x. IsTrue (is_wanted x.phase))
-IsFit s (Orders c sent orders) = Unit {0}
 IsFit s (Reported c sent report) = IsSomeAnd (numbered c.0 s.connections) (λ x. MayReport x report)
 IsFit s (Closed c sent cause heard) = IsSomeAnd (numbered c.0 s.connections) (λ x. MayClose x cause)
-IsFit s (Expire e) = Unit {0}
-IsFit s (Lapse e) = Unit {0}
 IsFit s (Assign e c r by) = IsWaitingAt s e × Gives s c r
 IsFit s (Want e c t) = IsWaitingAt s e
-IsFit s (Evict c) = Unit {0}
+IsFit s _ = Unit {0}
 
 eligible_waits : (s : AbstractPool) (e : Exchange) → IsTrue (is_eligible s e) → IsTrue (is_waiting e.status)
 unfolding is_eligible
@@ -81,18 +72,6 @@ usable_open s e c h = (and_parts (is_open c.phase) (has_capacity s.config c) (an
 
 fit_due : (s : AbstractPool) (m : Moment) (act : Act) → IsDue s act → IsFit (noted s m) act
 unfolding noted
-fit_due s m (Submit ask reply) h = absurd h
-fit_due s m (Cancel e reply) h = absurd h
-fit_due s m (Reprioritise e urgency reply) h = absurd h
-fit_due s m (Preconnect key credentials origin count reply) h = absurd h
-fit_due s m (Resolved key host addresses reply) h = absurd h
-fit_due s m Network h = absurd h
-fit_due s m Tick h = absurd h
-fit_due s m (Shutdown reply) h = absurd h
-fit_due s m (Dial c target) h = absurd h
-fit_due s m (Orders c sent orders) h = absurd h
-fit_due s m (Reported c sent report) h = absurd h
-fit_due s m (Closed c sent cause heard) h = absurd h
 fit_due s m (Expire e) h = tt
 fit_due s m (Lapse e) h = tt
 fit_due s m (Assign e c r by) h =
@@ -111,18 +90,12 @@ fit_due s m (Want e c t) h =
     let p = passing (can_open s) s.exchanges e.0 h.least.passes in
     opening_waits s e e.0 p.0 p.1 p.2
 fit_due s m (Evict c) h = tt
+fit_due s m _ h = absurd h
 
 fit_reply : (s : AbstractPool) (who : CallerNo) (act : Act) → IsReply s who act → IsFit s act
 fit_reply s who (Submit ask reply) h = h.2
-fit_reply s who (Cancel e reply) h = tt
-fit_reply s who (Reprioritise e urgency reply) h = tt
 fit_reply s who (Preconnect key credentials origin count reply) h = h.2
-fit_reply s who (Resolved key host addresses reply) h = tt
-fit_reply s who Network h = tt
-fit_reply s who Tick h = tt
-fit_reply s who (Shutdown reply) h = tt
 fit_reply s who (Dial c target) h = h.lowest.passes
-fit_reply s who (Orders c sent orders) h = tt
 fit_reply s who (Reported c sent report) h =
     let v = value_and (numbered c.0 s.connections) (λ x. IsWorkersEntry x who sent × MayReport x report) h in
     and_value (numbered c.0 s.connections) (λ x. MayReport x report) v.0 v.1 v.2.1
@@ -134,6 +107,7 @@ fit_reply s who (Lapse e) h = absurd h
 fit_reply s who (Assign e c r by) h = absurd h
 fit_reply s who (Want e c t) h = absurd h
 fit_reply s who (Evict c) h = absurd h
+fit_reply s who _ h = tt
 
 -- an entry that may stand is fit for the state with its moment counted, at which it acts
 pub fit_stand : (s : AbstractPool) (e : Entry) → MayStand s e → IsFit (noted s e.moment) e.act

@@ -15,7 +15,8 @@ use Rattle.model_histories.proofs.EditLemmas.{edit_here}
 use Rattle.model_histories.proofs.OwnLemmas.{IsOneEdit, IsGivenUp, gone_closed}
 use Rattle.model_histories.specs.Histories.{MayStand}
 use Rattle.model_histories.specs.Legal.{MayClose}
-use Rattle.model_steps.specs.After.{noted, sent_noted, after_closed, after, after_act}
+use Rattle.model_steps.specs.After.{noted, sent_noted, after, after_act}
+use Rattle.model_steps.specs.Lost.{after_closed}
 use Rattle.model_authority.proofs.NumberLemmas.{and_value, value_and}
 use Rattle.model_authority.specs.Lists.{numbered}
 use Rattle.model_authority.specs.Statuses.{is_gone}

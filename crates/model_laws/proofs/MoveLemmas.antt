@@ -1,8 +1,8 @@
 -- Exchanges wait again only where they may move, and one that may not be sent again has ended for good with its connection.
 use Rattle.std.proofs.Common.{◌≡◌, ◌⊎◌, ◌≤◌, ◌+◌, ℕ, List, Option, Some, None, Bool, true, false, inl, inr, refl, sym, ap, subst, ◌∙◌, arith, map}
-use Rattle.std.specs.Prelude.{◌==◌, ◌&&◌, not, nat_le, IsTrue, IsSomeAnd, Contains}
+use Rattle.std.specs.Prelude.{◌==◌, ◌&&◌, not, IsTrue, IsSomeAnd, Contains}
 use Rattle.std.specs.List.{list_any}
-use Rattle.std.proofs.lemmas.Bool.{cond-true, cond-false, cond_both, and_left, and_right, and_parts, and_from, or_right, eq-eqb, eqb-true, false_from_ne_true, not_from_true}
+use Rattle.std.proofs.lemmas.Bool.{and_left, and_right, and_parts, both_ways, and_from, or_right, eq-eqb, eqb-true, false_from_ne_true, not_from_true}
 use Rattle.std.proofs.lemmas.List.Folds.{list_any_at}
 use Rattle.net_base.specs.Methods.{is_idempotent_method}
 use Rattle.net_base.specs.declared.end_cause.EndCause.{EndCause}
@@ -10,7 +10,8 @@ use Rattle.net_base.specs.declared.numbers.CallerNo.{CallerNo}
 use Rattle.net_base.specs.declared.numbers.ConnNo.{ConnNo}
 use Rattle.net_base.specs.declared.numbers.ExchangeNo.{ExchangeNo}
 use Rattle.net_base.specs.declared.numbers.StreamNo.{StreamNo}
-use Rattle.model_changes.specs.Moves.{is_stream, may_retry, lease_moves, may_move}
+use Rattle.model_changes.specs.Connections.{is_stream}
+use Rattle.model_steps.specs.Lost.{may_retry, may_be_sent, as_retried, lost, after_closed}
 use Rattle.model_laws.proofs.CourseLemmas.{IsKept, state_later, state_after}
 use Rattle.model_laws.proofs.EndedLemmas.{ended_stays_ended}
 use Rattle.model_laws.proofs.ExchangeSteps.{Stays, StaysAt, BecomesAt}
@@ -18,12 +19,12 @@ use Rattle.model_laws.proofs.ExchangesAfter.{stay_closed, exchange_after}
 use Rattle.model_laws.proofs.SentLemmas.{started_by}
 use Rattle.model_laws.proofs.SoundLemmas.{reached_is_sound}
 use Rattle.model_laws.specs.Courses.{state_at, OfExchange}
-use Rattle.model_laws.specs.MoveLaws.{MovesAreLawful, WasHanded, WasRetried, MayNotBeSentAgain, LostExchangesStayLost}
+use Rattle.model_laws.specs.MoveLaws.{may_move, MovesAreLawful, WasHanded, WasRetried, MayNotBeSentAgain, LostExchangesStayLost}
 use Rattle.model_laws.specs.Sound.{StartedAreSent}
+use Rattle.model_histories.proofs.CauseLemmas.{by_moved, by_lost}
 use Rattle.model_histories.proofs.EditLemmas.{map_at}
 use Rattle.model_histories.specs.Histories.{MayStand, IsHistory}
-use Rattle.model_steps.specs.After.{noted, sent_noted, after_closed, after_act, after}
-use Rattle.model_steps.specs.Exchanges.{moved, marked_by, ended_by, ended_on, ended_by_act, lease_after}
+use Rattle.model_steps.specs.After.{noted, sent_noted, after_act, after}
 use Rattle.model_authority.proofs.NumberLemmas.{value_and}
 use Rattle.model_authority.specs.Lists.{numbered}
 use Rattle.model_authority.specs.Statuses.{is_waiting, is_leased, is_on, is_at, is_unsent_at, is_handed}
@@ -86,17 +87,17 @@ map_here {A} number f xs x is_item =
 
 -- whatever else the entry changes, what it made of the lease stays
 closed_after : (P : Exchange → Type 0) (s : AbstractPool) (who : CallerNo) (number : ℕ) (x : Exchange) (c : ConnNo) (sent : ℕ) (cause : EndCause) (heard : List StreamNo) →
-    ((a b : Exchange) → Stays (Unit {0}) a b → P a → P b) → numbered number s.exchanges ≡ Some x → P (lease_after (Closed c sent cause heard) x) →
+    ((a b : Exchange) → Stays (Unit {0}) a b → P a → P b) → numbered number s.exchanges ≡ Some x → P (lost c cause heard x) →
     IsSomeAnd (numbered number (after_act s who (Closed c sent cause heard)).exchanges) P
 closed_after P s who number x c sent cause heard keeps is_item holds =
-    let act : Act = Closed c sent cause heard in
-    let left : List Exchange = map (lease_after act) s.exchanges in
-    let behind : List Exchange = (after_closed (sent_noted s c sent) c cause act).exchanges in
-    kept_behind P (lease_after act x) (numbered number left) (numbered number behind) keeps holds (map_here number (lease_after act) s.exchanges x is_item)
-    (stay_closed (Unit {0}) (sent_noted s c sent) c cause act number)
+    let f : Exchange → Exchange = lost c cause heard in
+    let left : List Exchange = map f s.exchanges in
+    let behind : List Exchange = (after_closed (sent_noted s c sent) c cause heard).exchanges in
+    kept_behind P (f x) (numbered number left) (numbered number behind) keeps holds (map_here number f s.exchanges x is_item)
+    (stay_closed (Unit {0}) (sent_noted s c sent) c cause heard number)
 
 closed_behind : (P : Exchange → Type 0) (s : AbstractPool) (e : Entry) (number : ℕ) (x : Exchange) (c : ConnNo) (sent : ℕ) (cause : EndCause) (heard : List StreamNo) →
-    ((a b : Exchange) → Stays (Unit {0}) a b → P a → P b) → e.act ≡ Closed c sent cause heard → numbered number s.exchanges ≡ Some x → P (lease_after (Closed c sent cause heard) x) →
+    ((a b : Exchange) → Stays (Unit {0}) a b → P a → P b) → e.act ≡ Closed c sent cause heard → numbered number s.exchanges ≡ Some x → P (lost c cause heard x) →
     IsSomeAnd (numbered number (after s e).exchanges) P
 unfolding after noted
 closed_behind P s e number x c sent cause heard keeps is_act is_item holds =
@@ -115,14 +116,12 @@ retried_kept x s e may h = retried_at (MayStand s e) e.act (numbered x.0 s.excha
 
 -- one whose start was handed, and that moves as its connection ends, is sent again
 move_retried : (x : Exchange) (c : ConnNo) (sent : ℕ) (cause : EndCause) (heard : List StreamNo) (d : ConnNo) (r : StreamNo) (by : Way) → x.status ≡ Leased d r by true →
-    may_move x (Closed c sent cause heard) ≡ true → (lease_after (Closed c sent cause heard) x).retried ≡ true
-unfolding lease_after moved
+    may_move x (Closed c sent cause heard) ≡ true → (lost c cause heard x).retried ≡ true
 move_retried x c sent cause heard d r by leased may =
-    let act : Act = Closed c sent cause heard in
-    let m : Exchange = marked_by act x in
-    let marked : m.retried ≡ true = or_right x.retried (is_handed x.status) (ap (λ (t : Status). is_handed t) leased) in
-    ap (λ (y : Exchange). y.retried) (cond-true (may_move x act) (moved m) (ended_by_act act x) may)
-    ∙ cond_both (nat_le 5 m.moves) (ended_by outcome.TooManyMoves m) (record m { status = Waiting; moves = m.moves + 1 }) (λ (y : Exchange). y.retried ≡ true) (λ t. marked) (λ f. marked)
+    let parts = and_parts (is_on c x.status) (may_be_sent x heard x.status) may in
+    let marked : (as_retried x).retried ≡ true = or_right x.retried (is_handed x.status) (ap (λ (t : Status). is_handed t) leased) in
+    by_lost (λ y. y.retried ≡ true) c cause heard x (λ t m. by_moved (λ y. y.retried ≡ true) (as_retried x) marked (λ f. marked))
+    (λ t f. absurd (both_ways (may_be_sent x heard x.status) f parts.1)) (λ f. absurd (both_ways (is_on c x.status) f parts.0))
 
 leased_as : (c : ConnNo) (r : StreamNo) (by : Way) (handed : Bool) (status : Status) → status ≡ Leased c r by handed → is_leased status ≡ true
 leased_as c r by handed status is = ap (λ (t : Status). is_leased t) is
@@ -184,22 +183,14 @@ no_retry x r heard (inr (inr retried)) =
 no_retry x r heard (inr (inl some)) =
     and_left _ (not x.retried) (and_left _ (is_idempotent_method x.ask.request.method) (not_from_true _ (heard_any r heard some)))
 
-lost_moves : (x : Exchange) (c : ConnNo) (sent : ℕ) (cause : EndCause) (heard : List StreamNo) (r : StreamNo) (by : Way) → x.status ≡ Leased c r by true →
-    IsSpent x r heard → may_move x (Closed c sent cause heard) ≡ false
-unfolding may_move
-lost_moves x c sent cause heard r by leased unsafe =
-    ap (λ (t : Status). lease_moves x t (Closed c sent cause heard)) leased ∙ and_right (c.0 == c.0) (may_retry x r heard) (no_retry x r heard unsafe)
-
 -- its lease ends with its connection
-lost_ends : (x : Exchange) (c : ConnNo) (sent : ℕ) (cause : EndCause) (heard : List StreamNo) (r : StreamNo) (by : Way) → x.status ≡ Leased c r by true →
-    IsSpent x r heard → (lease_after (Closed c sent cause heard) x).status ≡ Ended (outcome.Lost c cause)
-unfolding lease_after
-lost_ends x c sent cause heard r by leased unsafe =
-    let act : Act = Closed c sent cause heard in
-    let how : Outcome = outcome.Lost c cause in
+lost_ends : (x : Exchange) (c : ConnNo) (cause : EndCause) (heard : List StreamNo) (r : StreamNo) (by : Way) → x.status ≡ Leased c r by true →
+    IsSpent x r heard → (lost c cause heard x).status ≡ Ended (outcome.Lost c cause)
+lost_ends x c cause heard r by leased unsafe =
     let here : is_on c x.status ≡ true = ap (is_on c) leased ∙ eq-eqb c.0 c.0 refl in
-    ap (λ (y : Exchange). y.status) (cond-false (may_move x act) (moved (marked_by act x)) (ended_on c how x) (lost_moves x c sent cause heard r by leased unsafe))
-    ∙ ap (λ (y : Exchange). y.status) (cond-true (is_on c x.status) (ended_by how x) x here)
+    let spent : may_be_sent x heard x.status ≡ false = ap (may_be_sent x heard) leased ∙ no_retry x r heard unsafe in
+    by_lost (λ y. y.status ≡ Ended (outcome.Lost c cause)) c cause heard x (λ t m. absurd (both_ways (may_be_sent x heard x.status) spent m)) (λ t f. refl)
+    (λ f. absurd (both_ways (is_on c x.status) f here))
 
 -- where no stream that was started has a lease whose start isn't handed
 pub lost_exchanges_stay_lost_by : ((config : Config) (h : List Entry) (n : ℕ) → IsHistory config h → StartedAreSent (state_at config h n)) → LostExchangesStayLost
@@ -209,11 +200,11 @@ lost_exchanges_stay_lost_by started_are_sent config h n m e number x c sent caus
     let are_sent : (k : ℕ) → StartedAreSent (state_at config h k) = λ k. started_are_sent config h k comes.history in
     let lease = lease_handed config h n c r number.0 x comes.history (are_sent n) is_item leased handed in
     let last : IsSpent x r heard = spent config h n number x r heard comes.history are_sent is_item unsafe in
-    let lost : OfExchange (state_at config h (n + 1)) number (λ y. y.status ≡ Ended how) =
+    let ends : OfExchange (state_at config h (n + 1)) number (λ y. y.status ≡ Ended how) =
     subst (λ t. OfExchange t number (λ y. y.status ≡ Ended how)) (sym (state_after config h n e comes.is_entry))
     (closed_behind (λ y. y.status ≡ Ended how) (state_at config h n) e number.0 x c sent cause heard (λ a b k. k.ended tt how) is_act is_item
-    (lost_ends x c sent cause heard r lease.0 lease.1 last)) in
-    ended_stays_ended config h (n + 1) m number how comes.history later lost
+    (lost_ends x c cause heard r lease.0 lease.1 last)) in
+    ended_stays_ended config h (n + 1) m number how comes.history later ends
 
 pub lost_exchanges_stay_lost : LostExchangesStayLost
 lost_exchanges_stay_lost = lost_exchanges_stay_lost_by (λ config h n history. (reached_is_sound config h n history).sent)

@@ -12,7 +12,7 @@ use Rattle.net_base.specs.declared.target.Via.{Via}
 use Rattle.net_base.specs.declared.target.Via.TheVariants as via
 use Rattle.partition_keys.specs.declared.group.GroupKey.{GroupKey}
 use Rattle.partition_keys.specs.declared.key.PartitionKey.{PartitionKey}
-use Rattle.model_changes.specs.Connections.{closing, without_stream, without_start, without_exchange, new_connection, dialing_by, after_opened, with_start, with_taken, with_limit, after_too_large, after_goaway, gone, after_shutdown, with_sent}
+use Rattle.model_changes.specs.Connections.{closing, without_stream, without_start, without_exchange, new_connection, dialing_by, after_opened, with_start, with_taken, with_limit, after_large_answer, going_away, gone, after_shutdown, with_sent}
 use Rattle.model_laws.proofs.AssignedLemmas.{usable_parts}
 use Rattle.model_laws.proofs.FitLemmas.{same_item}
 use Rattle.model_laws.proofs.OrderlySteps.{orderly_same, orderly_closing, orderly_without_stream, orderly_without_start, orderly_without_exchange, orderly_answered, orderly_after_too_large, orderly_after_goaway, orderly_gone, orderly_after_shutdown, orderly_new, orderly_dialing, orderly_after_opened, orderly_with_start, orderly_with_taken}
@@ -23,7 +23,10 @@ use Rattle.model_histories.proofs.RunLemmas.{config-after}
 use Rattle.model_histories.specs.Histories.{opening, MayStand}
 use Rattle.model_histories.specs.Legal.{IsWorkersEntry, MayReport, MayTake, MayTakeAt, MayReportAt, IsReply, IsLegal}
 use Rattle.model_settling.specs.Settling.{can_use, IsAssign, IsDue}
-use Rattle.model_steps.specs.After.{noted, after_submit, released_lease, released_by, released, after_cancel, after_reprioritise, after_preconnect, after_resolved, after_network, after_shut, after_dial, after_orders, after_useless, after_open_of, after_open, connection_after_answer, after_answered, after_leases, after_alt_seen, after_report, is_dial_failed, after_failed_dial, after_closed, after_expire, after_lapse, after_assign, wanted_connection, after_want_of, after_want, after_evict, sent_noted, after_act, after}
+use Rattle.model_steps.specs.After.{noted, after_submit, released_lease, released_by, released, after_cancel, after_reprioritise, after_preconnect, after_resolved, after_network, after_shut, after_dial, after_orders, connection_after_answer, after_leases, after_alt_seen, after_report, after_expire, after_lapse, after_assign, wanted_connection, after_want_of, after_want, after_evict, sent_noted, after_act, after}
+use Rattle.model_steps.specs.Opened.{after_useless, after_open_of, after_open}
+use Rattle.model_steps.specs.Answered.{after_answered}
+use Rattle.model_steps.specs.Lost.{is_dial_failed, after_failed_dial, after_closed}
 use Rattle.model_authority.proofs.NumberLemmas.{value_and, passing}
 use Rattle.model_authority.specs.Lists.{numbered, edit}
 use Rattle.model_authority.specs.Statuses.{is_wanted}
@@ -187,10 +190,10 @@ stay_report config s c act (report.Answered r response keep alt proof) fit =
     stay_by config c.0 (connection_after_answer s c r keep act) s.connections (orderly_answered config s c r keep act)
 stay_report config s c act (report.Refused r) fit = stay_by config c.0 (without_stream s.latest r) s.connections (orderly_without_stream config s.latest r)
 stay_report config s c act (report.Reset r code) fit = stay_by config c.0 (without_stream s.latest r) s.connections (orderly_without_stream config s.latest r)
-stay_report config s c act (report.TooLarge r) fit = stay_by config c.0 (after_too_large s.latest r) s.connections (orderly_after_too_large config s.latest r)
+stay_report config s c act (report.TooLarge r) fit = stay_by config c.0 (after_large_answer s.latest r) s.connections (orderly_after_too_large config s.latest r)
 stay_report config s c act (report.StreamClosed r) fit = stay_by config c.0 (without_stream s.latest r) s.connections (orderly_without_stream config s.latest r)
 stay_report config s c act (report.Goaway last) fit =
-    stay_by config c.0 (after_goaway s.latest c s.exchanges last) s.connections (orderly_after_goaway config s.latest c s.exchanges last)
+    stay_by config c.0 (going_away s.latest c s.exchanges last) s.connections (orderly_after_goaway config s.latest c s.exchanges last)
 stay_report config s c act (report.AltSeen origin alt) fit = by (numbered c.0 s.connections)
   where
     by : (o : Option Connection) → StayOrderly config s.connections (after_alt_seen s origin alt o).connections

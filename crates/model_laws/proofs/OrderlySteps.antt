@@ -13,14 +13,15 @@ use Rattle.net_base.specs.declared.numbers.ExchangeNo.{ExchangeNo}
 use Rattle.net_base.specs.declared.numbers.Moment.{Moment}
 use Rattle.net_base.specs.declared.numbers.StreamNo.{StreamNo}
 use Rattle.partition_keys.specs.declared.group.GroupKey.{GroupKey}
-use Rattle.model_changes.specs.Connections.{started_by, streams_started, is_start, is_start_of, is_reset_of, closing, idle_from, has_run_out, idle_if_run_out, other_streams, without_stream, without_start, without_exchange, new_connection, dialing_by, suits, opened_with, refused_with, after_opened, stream_after, with_start, with_taken, kept_open, without_reset, after_answer, excluding, after_too_large, streams_left, draining, draining_or_closing, after_goaway, gone, after_shutdown}
-use Rattle.model_changes.specs.Moves.{may_move}
+use Rattle.model_changes.specs.Connections.{started_by, streams_started, is_start, is_start_of, is_reset_of, closing, idle_from, has_run_out, idle_if_run_out, other_streams, without_stream, without_start, without_exchange, new_connection, dialing_by, suits, opened_with, refused_with, after_opened, stream_after, with_start, with_taken, kept_open, without_reset, after_answer, excluding, after_large_answer, streams_left, draining, draining_or_closing, going_away, gone, after_shutdown}
+use Rattle.model_laws.specs.MoveLaws.{may_move}
 use Rattle.model_laws.proofs.AssignedLemmas.{place_parts}
 use Rattle.model_laws.proofs.StayLemmas.{stream_rises}
 use Rattle.model_laws.specs.LimitLaws.{HasPlace}
 use Rattle.model_laws.specs.Sound.{HasNoStreams, IsOrderly}
 use Rattle.model_histories.proofs.KeepLemmas.{wanted_only}
-use Rattle.model_steps.specs.After.{lease_at, excluding_moved, connection_after_answer}
+use Rattle.model_steps.specs.After.{excluding_moved, connection_after_answer}
+use Rattle.model_steps.specs.Answered.{lease_at}
 use Rattle.model_authority.specs.Lists.{is_nil}
 use Rattle.model_authority.specs.Statuses.{is_wanted, is_dialing, is_open, is_draining, is_closing, is_gone, is_opening, is_h2, shows, speaks_h2}
 use Rattle.model_authority.specs.Ways.{has_capacity}
@@ -170,8 +171,8 @@ pub orderly_answered : (config : Config) (s : AbstractPool) (conn : ConnNo) (r :
 orderly_answered config s conn r keep act c h =
     orderly_after_answer config s.latest r keep (excluding_moved act (lease_at s conn r) c) (orderly_excluding config act (lease_at s conn r) c h)
 
-pub orderly_after_too_large : (config : Config) (now : Moment) (r : StreamNo) (c : Connection) → IsOrderly config c → IsOrderly config (after_too_large now r c)
-unfolding after_too_large
+pub orderly_after_too_large : (config : Config) (now : Moment) (r : StreamNo) (c : Connection) → IsOrderly config c → IsOrderly config (after_large_answer now r c)
+unfolding after_large_answer
 orderly_after_too_large config now r c h = orderly_kept_open config (speaks_h2 c) (without_stream now r c) (orderly_without_stream config now r c h)
 
 orderly_draining : (config : Config) (c : Connection) → IsOrderly config c → IsOrderly config (draining c)
@@ -183,8 +184,8 @@ orderly_drained : (config : Config) (c : Connection) → IsOrderly config c → 
 orderly_drained config c h = cond_both (is_nil c.live) (closing c) (draining c) (IsOrderly config) (λ t. orderly_closing config c h) (λ f. orderly_draining config c h)
 
 pub orderly_after_goaway : (config : Config) (now : Moment) (conn : ConnNo) (es : List Exchange) (last : StreamNo) (c : Connection) → IsOrderly config c →
-    IsOrderly config (after_goaway now conn es last c)
-unfolding after_goaway
+    IsOrderly config (going_away now conn es last c)
+unfolding going_away
 orderly_after_goaway config now conn es last c h =
     let less : Connection = record c { live = streams_left conn es last c.live; orders = filter (λ m. not (is_start m)) c.orders } in
     let fewer : IsOrderly config less = orderly_fewer config c less refl refl refl refl (ordered_filter (λ m. not (is_start m)) c.orders) (no_more _ c.live) h in

@@ -8,10 +8,11 @@ use Rattle.net_base.specs.declared.numbers.ConnNo.{ConnNo}
 use Rattle.net_base.specs.declared.numbers.ExchangeNo.{ExchangeNo}
 use Rattle.net_base.specs.declared.numbers.Moment.{Moment}
 use Rattle.net_base.specs.declared.numbers.StreamNo.{StreamNo}
-use Rattle.model_changes.specs.Connections.{closing, idle_from, has_run_out, idle_if_run_out, other_streams, is_start, is_start_of, without_stream, without_start, without_exchange, suits, opened_with, after_opened, with_start, kept_open, without_reset, after_answer, excluding, after_too_large, streams_left, draining, after_goaway, gone, after_shutdown}
-use Rattle.model_changes.specs.Moves.{may_move}
+use Rattle.model_changes.specs.Connections.{closing, idle_from, has_run_out, idle_if_run_out, other_streams, is_start, is_start_of, without_stream, without_start, without_exchange, suits, opened_with, after_opened, with_start, kept_open, without_reset, after_answer, excluding, after_large_answer, streams_left, draining, going_away, gone, after_shutdown}
+use Rattle.model_laws.specs.MoveLaws.{may_move}
 use Rattle.model_histories.proofs.EditLemmas.{edit_at, map_at}
-use Rattle.model_steps.specs.After.{lease_at, excluding_moved, connection_after_answer}
+use Rattle.model_steps.specs.After.{excluding_moved, connection_after_answer}
+use Rattle.model_steps.specs.Answered.{lease_at}
 use Rattle.model_authority.proofs.NumberLemmas.{numbered_at}
 use Rattle.model_authority.specs.Lists.{numbered, edit, is_nil}
 use Rattle.model_authority.specs.Statuses.{is_wanted, is_dialing, is_open, is_draining, is_closing, is_gone, is_busy, speaks_h2}
@@ -139,8 +140,8 @@ out_after_answer now r keep c =
     let k : StaysOut c left = out_trans c less left (out_phase c less refl refl) (out_without_stream now r less) in
     out_trans c left (kept_open keep left) k (out_kept_open keep left)
 
-pub out_after_too_large : (now : Moment) (r : StreamNo) (c : Connection) → StaysOut c (after_too_large now r c)
-unfolding after_too_large
+pub out_after_too_large : (now : Moment) (r : StreamNo) (c : Connection) → StaysOut c (after_large_answer now r c)
+unfolding after_large_answer
 out_after_too_large now r c =
     let left : Connection = without_stream now r c in
     out_trans c left (kept_open (speaks_h2 c) left) (out_without_stream now r c) (out_kept_open (speaks_h2 c) left)
@@ -150,8 +151,8 @@ out_draining c =
     let drained : Connection = record c { phase = Draining } in
     cond_both (is_open c.phase) drained c (StaysOut c) (λ t. out_there c drained refl (open_there c.phase t)) (λ f. out_refl c)
 
-pub out_after_goaway : (now : Moment) (conn : ConnNo) (es : List Exchange) (last : StreamNo) (c : Connection) → StaysOut c (after_goaway now conn es last c)
-unfolding after_goaway
+pub out_after_goaway : (now : Moment) (conn : ConnNo) (es : List Exchange) (last : StreamNo) (c : Connection) → StaysOut c (going_away now conn es last c)
+unfolding going_away
 out_after_goaway now conn es last c =
     let less : Connection = record c { live = streams_left conn es last c.live; orders = filter (λ m. not (is_start m)) c.orders } in
     let left : Connection = idle_if_run_out now c less in

@@ -1,29 +1,32 @@
 -- What each act that may stand leaves of each exchange: a lease that it had, or that the act gives, and its end.
 use Rattle.std.proofs.Common.{◌≡◌, ◌⊎◌, ℕ, List, [], ◌∷◌, ◌++◌, Option, Some, None, Bool, true, false, inl, inr, refl, sym, subst, map, IsSomeAnd, IsTrue}
 use Rattle.std.specs.Prelude.{◌==◌}
-use Rattle.std.proofs.lemmas.Bool.{cases_eq, cond_both, and_parts, both_ways, eqb-true}
+use Rattle.std.proofs.lemmas.Bool.{cases_eq, and_parts, both_ways, eqb-true}
 use Rattle.net_base.specs.declared.end_cause.EndCause.{EndCause}
-use Rattle.net_base.specs.declared.identity.Identity.{Identity}
 use Rattle.net_base.specs.declared.numbers.CallerNo.{CallerNo}
 use Rattle.net_base.specs.declared.numbers.ConnNo.{ConnNo}
 use Rattle.net_base.specs.declared.numbers.ExchangeNo.{ExchangeNo}
 use Rattle.net_base.specs.declared.numbers.StreamNo.{StreamNo}
-use Rattle.net_base.specs.declared.target.Target.{Target}
 use Rattle.net_base.specs.declared.target.Via.{Via}
 use Rattle.net_base.specs.declared.target.Via.TheVariants as via
 use Rattle.partition_keys.specs.declared.group.GroupKey.{GroupKey}
-use Rattle.model_changes.specs.Connections.{gone}
+use Rattle.model_histories.proofs.CauseLemmas.{by_identity, by_open, by_alt_seen, by_closed, by_want}
 use Rattle.model_laws.proofs.FitLemmas.{IsFit, closes}
 use Rattle.model_laws.proofs.TurnLemmas.{IsClaim, not_shut, none_waits}
-use Rattle.model_laws.proofs.YieldLemmas.{Yields, none_ends, unsent_leased, yields_same, yields_end, yields_trans, yields_ended_unless, yields_ended_if_waiting, yields_timed_out, yields_lease_after, yields_handed}
+use Rattle.model_laws.proofs.YieldLemmas.{Yields, none_ends, unsent_leased, yields_same, yields_end, yields_trans, yields_ended_unless, yields_ended_if_waiting, yields_timed_out, yields_answered, yields_refused, yields_ended_at, yields_left_out, yields_lost, yields_handed}
 use Rattle.model_histories.proofs.EditLemmas.{edit_other, edit_at, map_at, append_at, each_one}
 use Rattle.model_histories.specs.Replies.{IsSubmitReply}
-use Rattle.model_steps.specs.After.{after_submit, after_cancel, after_reprioritise, after_preconnect, after_resolved, after_network, after_shut, after_dial, after_orders, after_useless, is_useless, after_identity_of, after_open_of, after_open, after_answered, after_leases, after_alt_seen, after_report, is_dial_failed, after_failed_dial, after_closed, after_expire, after_lapse, after_assign, after_want_of, after_want, after_evict, sent_noted, after_act}
-use Rattle.model_steps.specs.Exchanges.{new_exchange, with_status, ended_by, with_urgency, timed_out, ended_unless, ended_if_waiting, lease_after, handed_by}
+use Rattle.model_steps.specs.After.{after_submit, after_cancel, after_reprioritise, after_preconnect, after_resolved, after_network, after_shut, after_dial, after_orders, after_report, after_expire, after_lapse, after_assign, after_evict, sent_noted, after_act}
+use Rattle.model_steps.specs.Opened.{after_useless}
+use Rattle.model_steps.specs.Answered.{answered, after_answered}
+use Rattle.model_steps.specs.Goaway.{left_out}
+use Rattle.model_steps.specs.Lost.{lost, after_lost, after_closed}
+use Rattle.model_steps.specs.StreamEnds.{refused, ended_at}
+use Rattle.model_steps.specs.Exchanges.{new_exchange, with_status, ended_by, with_urgency, timed_out, ended_unless, ended_if_waiting, handed_by}
 use Rattle.model_authority.specs.Lists.{numbered, edit}
 use Rattle.model_authority.specs.Statuses.{has_ended, is_at, is_unsent_at}
 use Rattle.model_values.specs.declared.entry.Act.{Act}
-use Rattle.model_values.specs.declared.entry.Act.TheVariants.{Submit, Cancel, Reprioritise, Preconnect, Resolved, Network, Tick, Shutdown, Dial, Orders, Reported, Closed, Expire, Lapse, Assign, Want, Evict}
+use Rattle.model_values.specs.declared.entry.Act.TheVariants.{Submit, Cancel, Reprioritise, Preconnect, Resolved, Shutdown, Orders, Reported, Closed, Expire, Lapse, Assign, Want}
 use Rattle.model_values.specs.declared.entry.Way.{Way}
 use Rattle.model_values.specs.declared.outcome.Outcome.{Outcome}
 use Rattle.model_values.specs.declared.outcome.Outcome.TheVariants as outcome
@@ -37,7 +40,6 @@ use Rattle.model_values.specs.declared.reply.SubmitReply.TheVariants as submit
 use Rattle.model_values.specs.declared.report.Report.{Report}
 use Rattle.model_values.specs.declared.report.Report.TheVariants as report
 use Rattle.model_values.specs.declared.state.AbstractPool.{AbstractPool}
-use Rattle.model_values.specs.declared.state.Connection.{Connection}
 use Rattle.model_values.specs.declared.state.Exchange.{Exchange}
 use Rattle.model_values.specs.declared.state.Status.TheVariants.{Leased}
 use Rattle.model_values.specs.declared.submission.Submission.{Submission}
@@ -95,53 +97,31 @@ yielded_useless shut ends es s g None how via.Direct first = first
 yielded_useless shut ends es s g (Some e) how via.Direct first = yielded_then shut ends es s.exchanges e.0 (ended_if_waiting how) first (yields_ended_if_waiting how)
 yielded_useless shut ends es s g wanted_for how (via.Alternative p) first = first
 
-yielded_identity : (shut : Bool) (s : AbstractPool) (conn : ConnNo) (g : GroupKey) (wanted_for : Option ExchangeNo) (id : Identity) →
-    HaveYielded shut none_ends s.exchanges (after_identity_of s conn g wanted_for id).exchanges
-yielded_identity shut s conn g wanted_for id =
-    let useless = after_useless s g wanted_for (outcome.Identity conn) g.target.via in
-    cond_both (is_useless s g id) useless s (λ (t : AbstractPool). HaveYielded shut none_ends s.exchanges t.exchanges)
-    (λ u. yielded_useless shut none_ends s.exchanges s g wanted_for (outcome.Identity conn) g.target.via (yielded_same shut s.exchanges)) (λ u. yielded_same shut s.exchanges)
-
-yielded_open : (shut : Bool) (s : AbstractPool) (conn : ConnNo) (id : Identity) → HaveYielded shut none_ends s.exchanges (after_open s conn id).exchanges
-unfolding after_open
-yielded_open shut s conn id = by (numbered conn.0 s.connections)
-  where
-    by : (o : Option Connection) → HaveYielded shut none_ends s.exchanges (after_open_of s conn id o).exchanges
-    by None = yielded_same shut s.exchanges
-    by (Some c) = yielded_identity shut s conn c.group c.wanted_for id
-
-yielded_leases : (shut : Bool) (act : Act) (es : List Exchange) → HaveYielded shut (closes act) es (map (lease_after act) es)
-yielded_leases shut act es = yielded_map shut (closes act) (lease_after act) es (yields_lease_after act)
-
 -- by a report of this connection
-yielded_report : (shut : Bool) (s : AbstractPool) (conn : ConnNo) (sent : ℕ) (told r : Report) →
-    HaveYielded shut none_ends s.exchanges (after_report s conn (Reported conn sent told) r).exchanges
+yielded_report : (shut : Bool) (s : AbstractPool) (conn : ConnNo) (r : Report) → HaveYielded shut none_ends s.exchanges (after_report s conn r).exchanges
 unfolding after_answered
-yielded_report shut s conn sent told (report.Opened id) = yielded_open shut s conn id
-yielded_report shut s conn sent told (report.Limit n) = yielded_same shut s.exchanges
-yielded_report shut s conn sent told (report.Answered r response keep alt proof) = yielded_leases shut (Reported conn sent told) s.exchanges
-yielded_report shut s conn sent told (report.Refused r) = yielded_leases shut (Reported conn sent told) s.exchanges
-yielded_report shut s conn sent told (report.Reset r code) = yielded_leases shut (Reported conn sent told) s.exchanges
-yielded_report shut s conn sent told (report.TooLarge r) = yielded_leases shut (Reported conn sent told) s.exchanges
-yielded_report shut s conn sent told (report.StreamClosed r) = yielded_same shut s.exchanges
-yielded_report shut s conn sent told (report.Goaway last) = yielded_leases shut (Reported conn sent told) s.exchanges
-yielded_report shut s conn sent told (report.AltSeen origin alt) = by (numbered conn.0 s.connections)
-  where
-    by : (o : Option Connection) → HaveYielded shut none_ends s.exchanges (after_alt_seen s origin alt o).exchanges
-    by None = yielded_same shut s.exchanges
-    by (Some c) = yielded_same shut s.exchanges
+yielded_report shut s conn (report.Opened id) =
+    let P : AbstractPool → Type 0 = λ t. HaveYielded shut none_ends s.exchanges t.exchanges in
+    let same : P s = yielded_same shut s.exchanges in
+    by_open P s conn id
+    (λ c. by_identity P s conn c.group c.wanted_for id (yielded_useless shut none_ends s.exchanges s c.group c.wanted_for (outcome.Identity conn) c.group.target.via same) same) same
+yielded_report shut s conn (report.Answered r response keep alt proof) = yielded_map shut none_ends (answered conn r response) s.exchanges (yields_answered conn r response)
+yielded_report shut s conn (report.Refused r) = yielded_map shut none_ends (refused conn r) s.exchanges (yields_refused conn r)
+yielded_report shut s conn (report.Reset r code) = yielded_map shut none_ends (ended_at conn r (outcome.Reset code)) s.exchanges (yields_ended_at conn r (outcome.Reset code))
+yielded_report shut s conn (report.TooLarge r) = yielded_map shut none_ends (ended_at conn r outcome.TooLarge) s.exchanges (yields_ended_at conn r outcome.TooLarge)
+yielded_report shut s conn (report.Goaway last) = yielded_map shut none_ends (left_out conn last) s.exchanges (yields_left_out conn last)
+yielded_report shut s conn (report.AltSeen origin alt) =
+    by_alt_seen (λ t. HaveYielded shut none_ends s.exchanges t.exchanges) s conn origin alt (λ c. yielded_same shut s.exchanges) (yielded_same shut s.exchanges)
+yielded_report shut s conn _ = yielded_same shut s.exchanges
 
-yielded_closed : (shut : Bool) (s : AbstractPool) (conn : ConnNo) (c : EndCause) (act : Act) → HaveYielded shut (closes act) s.exchanges (after_closed s conn c act).exchanges
-unfolding after_closed
-yielded_closed shut s conn c act =
-    let left : AbstractPool = after_leases s conn act gone in
-    cond_both (is_dial_failed c) (after_failed_dial left conn (numbered conn.0 s.connections)) left (λ (t : AbstractPool). HaveYielded shut (closes act) s.exchanges t.exchanges)
-    (λ f. by (numbered conn.0 s.connections)) (λ f. yielded_leases shut act s.exchanges)
-  where
-    by : (o : Option Connection) → HaveYielded shut (closes act) s.exchanges (after_failed_dial (after_leases s conn act gone) conn o).exchanges
-    by None = yielded_leases shut act s.exchanges
-    by (Some x) =
-        yielded_useless shut (closes act) s.exchanges (after_leases s conn act gone) x.group x.wanted_for (outcome.DialFault conn) x.group.target.via (yielded_leases shut act s.exchanges)
+yielded_closed : (shut : Bool) (s : AbstractPool) (conn : ConnNo) (cause : EndCause) (heard : List StreamNo) →
+    HaveYielded shut (λ n. conn.0 == n) s.exchanges (after_closed s conn cause heard).exchanges
+yielded_closed shut s conn cause heard =
+    let ends : ℕ → Bool = λ n. conn.0 == n in
+    let P : AbstractPool → Type 0 = λ t. HaveYielded shut ends s.exchanges t.exchanges in
+    let left : P (after_lost s conn cause heard) = yielded_map shut ends (lost conn cause heard) s.exchanges (yields_lost conn cause heard) in
+    by_closed P s conn cause heard
+    (λ c. yielded_useless shut ends s.exchanges (after_lost s conn cause heard) c.group c.wanted_for (outcome.DialFault conn) c.group.target.via left) left
 
 -- ---- one exchange of the list, by any act
 
@@ -194,14 +174,6 @@ yielded_submit shut s who ask submit.BadProbe claim fit = yielded_same shut s.ex
 yielded_submit shut s who ask (submit.SubmissionsFull n) claim fit = yielded_same shut s.exchanges
 yielded_submit shut s who ask (submit.Accepted e) claim fit = yielded_push shut s.exchanges (new_exchange who ask) (not_shut shut s claim fit.0) (λ c r h. absurd cc)
 
-yielded_want : (shut : Bool) (s : AbstractPool) (e : ExchangeNo) (t : Target) → HaveYielded shut none_ends s.exchanges (after_want s e t).exchanges
-unfolding after_want
-yielded_want shut s e t = by (numbered e.0 s.exchanges)
-  where
-    by : (o : Option Exchange) → HaveYielded shut none_ends s.exchanges (after_want_of s e t o).exchanges
-    by None = yielded_same shut s.exchanges
-    by (Some x) = yielded_same shut s.exchanges
-
 -- an act that gives no lease
 abbrev IsNoAssign : Act → Type 0
 IsNoAssign (Assign e c r by) = ⊥
@@ -211,33 +183,22 @@ yielded_act : (shut : Bool) (s : AbstractPool) (who : CallerNo) (act : Act) → 
     HaveYielded shut (closes act) s.exchanges (after_act s who act).exchanges
 unfolding after_cancel after_reprioritise after_preconnect after_resolved after_network after_shut after_dial after_orders after_expire after_lapse after_evict
 yielded_act shut s who (Submit ask reply) claim fit plain = yielded_submit shut s who ask reply claim fit
-yielded_act shut s who (Cancel e cancel.Unknown) claim fit plain = yielded_same shut s.exchanges
-yielded_act shut s who (Cancel e cancel.Ended) claim fit plain = yielded_same shut s.exchanges
 yielded_act shut s who (Cancel e cancel.Cancelled) claim fit plain = yielded_edit shut e.0 (ended_by outcome.Cancelled) s.exchanges (yields_end none_ends outcome.Cancelled)
-yielded_act shut s who (Reprioritise e urgency change.Unknown) claim fit plain = yielded_same shut s.exchanges
-yielded_act shut s who (Reprioritise e urgency change.Ended) claim fit plain = yielded_same shut s.exchanges
 yielded_act shut s who (Reprioritise e urgency change.Changed) claim fit plain =
     yielded_edit shut e.0 (with_urgency urgency) s.exchanges (λ x. record { leases = λ c r h. (h, refl); ended = λ h. h; unsent = λ c r h. h })
-yielded_act shut s who (Preconnect key credentials origin count (preconnect.Closed place)) claim fit plain = yielded_same shut s.exchanges
-yielded_act shut s who (Preconnect key credentials origin count (preconnect.NoRoom total in_group)) claim fit plain = yielded_same shut s.exchanges
 yielded_act shut s who (Preconnect key credentials origin count (preconnect.Opening k)) claim fit plain = yielded_same shut s.exchanges
-yielded_act shut s who (Resolved key host addresses (resolved.Closed place)) claim fit plain = yielded_same shut s.exchanges
-yielded_act shut s who (Resolved key host addresses (resolved.TooMany n)) claim fit plain = yielded_same shut s.exchanges
 yielded_act shut s who (Resolved key host addresses resolved.Noted) claim fit plain = yielded_same shut s.exchanges
-yielded_act shut s who Network claim fit plain = yielded_same shut s.exchanges
-yielded_act shut s who Tick claim fit plain = yielded_same shut s.exchanges
-yielded_act shut s who (Shutdown (shut_reply.Closed place)) claim fit plain = yielded_same shut s.exchanges
 yielded_act shut s who (Shutdown shut_reply.Noted) claim fit plain =
     yielded_map shut none_ends (ended_unless outcome.PoolClosed) s.exchanges (yields_ended_unless outcome.PoolClosed)
-yielded_act shut s who (Dial c target) claim fit plain = yielded_same shut s.exchanges
 yielded_act shut s who (Orders c sent orders) claim fit plain = yielded_map shut none_ends (handed_by c orders) s.exchanges (yields_handed c orders)
-yielded_act shut s who (Reported c sent report) claim fit plain = yielded_report shut (sent_noted s c sent) c sent report report
-yielded_act shut s who (Closed c sent cause heard) claim fit plain = yielded_closed shut (sent_noted s c sent) c cause (Closed c sent cause heard)
+yielded_act shut s who (Reported c sent report) claim fit plain = yielded_report shut (sent_noted s c sent) c report
+yielded_act shut s who (Closed c sent cause heard) claim fit plain = yielded_closed shut (sent_noted s c sent) c cause heard
 yielded_act shut s who (Expire e) claim fit plain = yielded_edit shut e.0 timed_out s.exchanges yields_timed_out
 yielded_act shut s who (Lapse e) claim fit plain = yielded_edit shut e.0 (ended_by outcome.NoAlternative) s.exchanges (yields_end none_ends outcome.NoAlternative)
 yielded_act shut s who (Assign e c r way) claim fit plain = absurd plain
-yielded_act shut s who (Want e c t) claim fit plain = yielded_want shut s e t
-yielded_act shut s who (Evict c) claim fit plain = yielded_same shut s.exchanges
+yielded_act shut s who (Want e c t) claim fit plain =
+    by_want (λ u. HaveYielded shut none_ends s.exchanges u.exchanges) s e t (λ x. yielded_same shut s.exchanges) (yielded_same shut s.exchanges)
+yielded_act shut s who _ claim fit plain = yielded_same shut s.exchanges
 
 releases_assign : (shut : Bool) (s : AbstractPool) (e : ExchangeNo) (c : ConnNo) (r : StreamNo) (way : Way) → shut ≡ false →
     (n : ℕ) → Releases shut (Assign e c r way) n (numbered n s.exchanges) (numbered n (after_assign s e c r way).exchanges)
@@ -277,19 +238,4 @@ releases_assign shut s e c r way fresh n =
 pub releases_act : (shut : Bool) (s : AbstractPool) (who : CallerNo) (act : Act) → IsClaim shut s → IsFit s act →
     (n : ℕ) → Releases shut act n (numbered n s.exchanges) (numbered n (after_act s who act).exchanges)
 releases_act shut s who (Assign e c r way) claim fit n = releases_assign shut s e c r way (none_waits shut s e claim fit.0) n
-releases_act shut s who (Submit ask reply) claim fit n = releases_by shut (Submit ask reply) n _ _ (yielded_act shut s who (Submit ask reply) claim fit tt n)
-releases_act shut s who (Cancel e reply) claim fit n = releases_by shut (Cancel e reply) n _ _ (yielded_act shut s who (Cancel e reply) claim fit tt n)
-releases_act shut s who (Reprioritise e urgency reply) claim fit n = releases_by shut (Reprioritise e urgency reply) n _ _ (yielded_act shut s who (Reprioritise e urgency reply) claim fit tt n)
-releases_act shut s who (Preconnect key credentials origin count reply) claim fit n = releases_by shut (Preconnect key credentials origin count reply) n _ _ (yielded_act shut s who (Preconnect key credentials origin count reply) claim fit tt n)
-releases_act shut s who (Resolved key host addresses reply) claim fit n = releases_by shut (Resolved key host addresses reply) n _ _ (yielded_act shut s who (Resolved key host addresses reply) claim fit tt n)
-releases_act shut s who Network claim fit n = releases_by shut Network n _ _ (yielded_act shut s who Network claim fit tt n)
-releases_act shut s who Tick claim fit n = releases_by shut Tick n _ _ (yielded_act shut s who Tick claim fit tt n)
-releases_act shut s who (Shutdown reply) claim fit n = releases_by shut (Shutdown reply) n _ _ (yielded_act shut s who (Shutdown reply) claim fit tt n)
-releases_act shut s who (Dial c target) claim fit n = releases_by shut (Dial c target) n _ _ (yielded_act shut s who (Dial c target) claim fit tt n)
-releases_act shut s who (Orders c sent orders) claim fit n = releases_by shut (Orders c sent orders) n _ _ (yielded_act shut s who (Orders c sent orders) claim fit tt n)
-releases_act shut s who (Reported c sent report) claim fit n = releases_by shut (Reported c sent report) n _ _ (yielded_act shut s who (Reported c sent report) claim fit tt n)
-releases_act shut s who (Closed c sent cause heard) claim fit n = releases_by shut (Closed c sent cause heard) n _ _ (yielded_act shut s who (Closed c sent cause heard) claim fit tt n)
-releases_act shut s who (Expire e) claim fit n = releases_by shut (Expire e) n _ _ (yielded_act shut s who (Expire e) claim fit tt n)
-releases_act shut s who (Lapse e) claim fit n = releases_by shut (Lapse e) n _ _ (yielded_act shut s who (Lapse e) claim fit tt n)
-releases_act shut s who (Want e c t) claim fit n = releases_by shut (Want e c t) n _ _ (yielded_act shut s who (Want e c t) claim fit tt n)
-releases_act shut s who (Evict c) claim fit n = releases_by shut (Evict c) n _ _ (yielded_act shut s who (Evict c) claim fit tt n)
+releases_act shut s who act claim fit n = releases_by shut act n _ _ (yielded_act shut s who act claim fit tt n)

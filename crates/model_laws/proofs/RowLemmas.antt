@@ -8,12 +8,12 @@ use Rattle.std.proofs.lemmas.List.Kept.{AllPairs-cons, AllPairs-filter}
 use Rattle.std.proofs.lemmas.List.Quantifiers.{all_pairs_push}
 use Rattle.net_base.specs.Equality.{same_origin}
 use Rattle.net_base.specs.declared.end_cause.EndCause.{EndCause}
-use Rattle.net_base.specs.declared.identity.Identity.{Identity}
 use Rattle.net_base.specs.declared.numbers.CallerNo.{CallerNo}
 use Rattle.net_base.specs.declared.numbers.ConnNo.{ConnNo}
 use Rattle.net_base.specs.declared.numbers.ExchangeNo.{ExchangeNo}
 use Rattle.net_base.specs.declared.numbers.StreamNo.{StreamNo}
 use Rattle.net_base.specs.declared.origin.Origin.{Origin}
+use Rattle.net_base.specs.declared.response.Response.{Response}
 use Rattle.net_base.specs.declared.target.Proto.{Proto}
 use Rattle.net_base.specs.declared.target.Target.{Target}
 use Rattle.net_base.specs.declared.target.Via.{Via}
@@ -27,18 +27,20 @@ use Rattle.partition_keys.specs.declared.alternative.Proof.TheVariants as proof
 use Rattle.partition_keys.specs.declared.group.GroupKey.{GroupKey}
 use Rattle.partition_keys.specs.declared.key.PartitionKey.{PartitionKey}
 use Rattle.model_changes.specs.Alternatives.{marked_as_before, other_rows, with_list, updated_alternatives, broken_from, with_broken_in, broken_alternatives, later_by, proven_from, with_proven_in, proven_alternatives, leads_to, without_target_in, dropped_alternatives, persistent_in, persistent_alternatives}
-use Rattle.model_changes.specs.Connections.{gone}
-use Rattle.model_changes.specs.Moves.{may_move}
 use Rattle.model_laws.proofs.SameLemmas.{keys_are, origins_are}
 use Rattle.model_laws.specs.Sound.{RowsAreApart}
 use Rattle.model_histories.specs.Histories.{opening}
-use Rattle.model_steps.specs.After.{noted, after_submit, after_cancel, after_reprioritise, after_preconnect, other_hosts, after_resolved, after_network, after_shut, after_dial, after_orders, with_proto, after_useless, is_useless, after_identity_of, after_open_of, after_open, lease_at, alternatives_of_move, alternatives_of_end, alternatives_of_lease, alternatives_by, alternatives_after_answer, after_answered, after_leases, after_alt_seen, after_report, is_dial_failed, after_failed_dial, after_closed, after_expire, after_lapse, after_assign, after_want_of, after_want, after_evict, sent_noted, after_act, after}
+use Rattle.model_histories.proofs.CauseLemmas.{by_identity, by_open, by_alt_seen, by_closed, by_want}
+use Rattle.model_steps.specs.After.{noted, after_submit, after_cancel, after_reprioritise, after_preconnect, other_hosts, after_resolved, after_network, after_shut, after_dial, after_orders, after_report, after_expire, after_lapse, after_assign, after_evict, sent_noted, after_act, after}
+use Rattle.model_steps.specs.Opened.{with_proto, after_useless}
+use Rattle.model_steps.specs.Answered.{is_misdirected, lease_at, without_misdirecting, with_words_of, answered_alternatives, after_answered}
+use Rattle.model_steps.specs.Lost.{after_lost, after_closed}
 use Rattle.model_authority.specs.Lists.{numbered}
 use Rattle.model_authority.specs.Statuses.{has_coalesced_lease}
 use Rattle.model_authority.specs.Ways.{is_row_of, is_host_row_of, list_of}
 use Rattle.model_values.specs.declared.config.Config.{Config}
 use Rattle.model_values.specs.declared.entry.Act.{Act}
-use Rattle.model_values.specs.declared.entry.Act.TheVariants.{Submit, Cancel, Reprioritise, Preconnect, Resolved, Network, Tick, Shutdown, Dial, Orders, Reported, Closed, Expire, Lapse, Assign, Want, Evict}
+use Rattle.model_values.specs.declared.entry.Act.TheVariants.{Submit, Cancel, Reprioritise, Preconnect, Resolved, Network, Shutdown, Reported, Closed, Want}
 use Rattle.model_values.specs.declared.entry.Entry.{Entry}
 use Rattle.model_values.specs.declared.outcome.Outcome.{Outcome}
 use Rattle.model_values.specs.declared.outcome.Outcome.TheVariants as outcome
@@ -177,32 +179,21 @@ apart_persistent rows apart = apart_lists persistent_in rows (λ x. record { key
 
 -- ---- answers
 
-apart_move : (e : Exchange) (t : Target) (rows : List AltRow) → AreOfOrigins rows → AreOfOrigins (alternatives_of_move e t rows)
+apart_move : (e : Exchange) (t : Target) (rows : List AltRow) → AreOfOrigins rows → AreOfOrigins (without_misdirecting e t rows)
 apart_move e t rows apart =
     cond_both (has_coalesced_lease e.status) rows (dropped_alternatives e.ask.key e.ask.request.origin t rows) AreOfOrigins
     (λ c. apart) (λ f. apart_dropped e.ask.key e.ask.request.origin t rows apart)
 
-apart_end : (e : Exchange) (t : Target) (alt : AltUpdate) (given : Proof) (rows : List AltRow) → AreOfOrigins rows → AreOfOrigins (alternatives_of_end e t alt given rows)
+apart_end : (e : Exchange) (t : Target) (alt : AltUpdate) (given : Proof) (rows : List AltRow) → AreOfOrigins rows → AreOfOrigins (with_words_of e t alt given rows)
 apart_end e t alt given rows apart = apart_proven e.ask.key e.ask.request.origin t given _ (apart_updated e.ask.key e.ask.request.origin alt rows apart)
 
-apart_lease : (act : Act) (t : Target) (alt : AltUpdate) (given : Proof) (lease : Option Exchange) (rows : List AltRow) → AreOfOrigins rows →
-    AreOfOrigins (alternatives_of_lease act t alt given lease rows)
-unfolding alternatives_of_lease
-apart_lease act t alt given None rows apart = apart
-apart_lease act t alt given (Some e) rows apart =
-    cond_both (may_move e act) (alternatives_of_move e t rows) (alternatives_of_end e t alt given rows) AreOfOrigins
-    (λ m. apart_move e t rows apart) (λ f. apart_end e t alt given rows apart)
-
-apart_by : (act : Act) (alt : AltUpdate) (given : Proof) (lease : Option Exchange) (o : Option Connection) (rows : List AltRow) → AreOfOrigins rows →
-    AreOfOrigins (alternatives_by act alt given lease o rows)
-unfolding alternatives_by
-apart_by act alt given lease None rows apart = apart
-apart_by act alt given lease (Some c) rows apart = apart_lease act c.group.target alt given lease rows apart
-
-apart_answered : (s : AbstractPool) (conn : ConnNo) (r : StreamNo) (act : Act) (alt : AltUpdate) (given : Proof) → AreOfOrigins s.alternatives →
-    AreOfOrigins (alternatives_after_answer s conn r act alt given)
-unfolding alternatives_after_answer
-apart_answered s conn r act alt given apart = apart_by act alt given (lease_at s conn r) (numbered conn.0 s.connections) s.alternatives apart
+apart_answered : (response : Response) (alt : AltUpdate) (given : Proof) (lease : Option Exchange) (o : Option Connection) (rows : List AltRow) → AreOfOrigins rows →
+    AreOfOrigins (answered_alternatives response alt given lease o rows)
+apart_answered response alt given (Some e) (Some c) rows apart =
+    cond_both (is_misdirected response e) (without_misdirecting e c.group.target rows) (with_words_of e c.group.target alt given rows) AreOfOrigins
+    (λ m. apart_move e c.group.target rows apart) (λ f. apart_end e c.group.target alt given rows apart)
+apart_answered response alt given (Some e) None rows apart = apart
+apart_answered response alt given None o rows apart = apart
 
 -- ---- addresses and protocols
 
@@ -237,90 +228,39 @@ apart_useless : (s : AbstractPool) (g : GroupKey) (wanted_for : Option ExchangeN
 apart_useless s g wanted_for how via.Direct apart = apart
 apart_useless s g wanted_for how (via.Alternative p) apart = (apart_broken g.key g.origin g.target s apart.0, apart.1, apart.2)
 
-apart_identity : (s : AbstractPool) (conn : ConnNo) (g : GroupKey) (wanted_for : Option ExchangeNo) (id : Identity) → AreAllApart s →
-    AreAllApart (after_identity_of s conn g wanted_for id)
-apart_identity s conn g wanted_for id apart =
-    let useless = after_useless s g wanted_for (outcome.Identity conn) g.target.via in
-    cond_both (is_useless s g id) useless s AreAllApart (λ u. apart_useless s g wanted_for (outcome.Identity conn) g.target.via apart) (λ u. apart)
-
-apart_open : (s : AbstractPool) (conn : ConnNo) (id : Identity) → AreAllApart s → AreAllApart (after_open s conn id)
-unfolding after_open
-apart_open s conn id apart = by (numbered conn.0 s.connections)
-  where
-    by : (o : Option Connection) → AreAllApart (after_open_of s conn id o)
-    by None = apart
-    by (Some c) =
-        let rest = apart_identity s conn c.group c.wanted_for id apart in
-        (rest.0, rest.1, protos_apart c.group id.proto s.protos apart.2)
-
-apart_report : (s : AbstractPool) (conn : ConnNo) (act : Act) (r : Report) → AreAllApart s → AreAllApart (after_report s conn act r)
+apart_report : (s : AbstractPool) (conn : ConnNo) (r : Report) → AreAllApart s → AreAllApart (after_report s conn r)
 unfolding after_answered
-apart_report s conn act (report.Opened id) apart = apart_open s conn id apart
-apart_report s conn act (report.Limit n) apart = apart
-apart_report s conn act (report.Answered r response keep alt given) apart = (apart_answered s conn r act alt given apart.0, apart.1, apart.2)
-apart_report s conn act (report.Refused r) apart = apart
-apart_report s conn act (report.Reset r code) apart = apart
-apart_report s conn act (report.TooLarge r) apart = apart
-apart_report s conn act (report.StreamClosed r) apart = apart
-apart_report s conn act (report.Goaway last) apart = apart
-apart_report s conn act (report.AltSeen origin alt) apart = by (numbered conn.0 s.connections)
-  where
-    by : (o : Option Connection) → AreAllApart (after_alt_seen s origin alt o)
-    by None = apart
-    by (Some c) = (apart_updated c.group.key origin alt s.alternatives apart.0, apart.1, apart.2)
+apart_report s conn (report.Opened id) apart =
+    by_open AreAllApart s conn id
+    (λ c.
+    let rest = by_identity AreAllApart s conn c.group c.wanted_for id (apart_useless s c.group c.wanted_for (outcome.Identity conn) c.group.target.via apart) apart in
+    (rest.0, rest.1, protos_apart c.group id.proto s.protos apart.2)) apart
+apart_report s conn (report.Answered r response keep alt given) apart =
+    (apart_answered response alt given (lease_at s conn r) (numbered conn.0 s.connections) s.alternatives apart.0, apart.1, apart.2)
+apart_report s conn (report.AltSeen origin alt) apart =
+    by_alt_seen AreAllApart s conn origin alt (λ c. (apart_updated c.group.key origin alt s.alternatives apart.0, apart.1, apart.2)) apart
+apart_report s conn _ apart = apart
 
-apart_closed : (s : AbstractPool) (conn : ConnNo) (end : EndCause) (act : Act) → AreAllApart s → AreAllApart (after_closed s conn end act)
-unfolding after_closed
-apart_closed s conn end act apart =
-    let left : AbstractPool = after_leases s conn act gone in
-    cond_both (is_dial_failed end) (after_failed_dial left conn (numbered conn.0 s.connections)) left AreAllApart
-    (λ f. by (numbered conn.0 s.connections)) (λ f. apart)
-  where
-    by : (o : Option Connection) → AreAllApart (after_failed_dial (after_leases s conn act gone) conn o)
-    by None = apart
-    by (Some c) = apart_useless (after_leases s conn act gone) c.group c.wanted_for (outcome.DialFault conn) c.group.target.via apart
-
-apart_want : (s : AbstractPool) (e : ExchangeNo) (t : Target) → AreAllApart s → AreAllApart (after_want s e t)
-unfolding after_want
-apart_want s e t apart = by (numbered e.0 s.exchanges)
-  where
-    by : (o : Option Exchange) → AreAllApart (after_want_of s e t o)
-    by None = apart
-    by (Some x) = apart
+apart_closed : (s : AbstractPool) (conn : ConnNo) (cause : EndCause) (heard : List StreamNo) → AreAllApart s → AreAllApart (after_closed s conn cause heard)
+apart_closed s conn cause heard apart =
+    by_closed AreAllApart s conn cause heard
+    (λ c. apart_useless (after_lost s conn cause heard) c.group c.wanted_for (outcome.DialFault conn) c.group.target.via apart) apart
 
 -- ---- any entry
 
 apart_act : (s : AbstractPool) (who : CallerNo) (act : Act) → AreAllApart s → AreAllApart (after_act s who act)
 unfolding after_submit after_cancel after_reprioritise after_preconnect after_resolved after_network after_shut after_dial after_orders after_expire after_lapse after_assign after_evict
-apart_act s who (Submit ask (submit.Closed place)) apart = apart
-apart_act s who (Submit ask submit.BadProbe) apart = apart
-apart_act s who (Submit ask (submit.SubmissionsFull n)) apart = apart
 apart_act s who (Submit ask (submit.Accepted e)) apart = apart
-apart_act s who (Cancel e cancel.Unknown) apart = apart
-apart_act s who (Cancel e cancel.Ended) apart = apart
 apart_act s who (Cancel e cancel.Cancelled) apart = apart
-apart_act s who (Reprioritise e urgency change.Unknown) apart = apart
-apart_act s who (Reprioritise e urgency change.Ended) apart = apart
 apart_act s who (Reprioritise e urgency change.Changed) apart = apart
-apart_act s who (Preconnect key credentials origin count (preconnect.Closed place)) apart = apart
-apart_act s who (Preconnect key credentials origin count (preconnect.NoRoom total in_group)) apart = apart
 apart_act s who (Preconnect key credentials origin count (preconnect.Opening k)) apart = apart
-apart_act s who (Resolved key host addresses (resolved.Closed place)) apart = apart
-apart_act s who (Resolved key host addresses (resolved.TooMany n)) apart = apart
 apart_act s who (Resolved key host addresses resolved.Noted) apart = (apart.0, hosts_apart key host addresses s.addresses apart.1, apart.2)
 apart_act s who Network apart = (apart_persistent s.alternatives apart.0, pairs_none (λ (a : HostRow) (b : HostRow). ¬ IsTrue (is_host_row_of b.key b.host a)), apart.2)
-apart_act s who Tick apart = apart
-apart_act s who (Shutdown (shut.Closed place)) apart = apart
 apart_act s who (Shutdown shut.Noted) apart = apart
-apart_act s who (Dial c target) apart = apart
-apart_act s who (Orders c sent orders) apart = apart
-apart_act s who (Reported c sent report) apart = apart_report (sent_noted s c sent) c (Reported c sent report) report apart
-apart_act s who (Closed c sent cause heard) apart = apart_closed (sent_noted s c sent) c cause (Closed c sent cause heard) apart
-apart_act s who (Expire e) apart = apart
-apart_act s who (Lapse e) apart = apart
-apart_act s who (Assign e c r way) apart = apart
-apart_act s who (Want e c t) apart = apart_want s e t apart
-apart_act s who (Evict c) apart = apart
+apart_act s who (Reported c sent report) apart = apart_report (sent_noted s c sent) c report apart
+apart_act s who (Closed c sent cause heard) apart = apart_closed (sent_noted s c sent) c cause heard apart
+apart_act s who (Want e c t) apart = by_want AreAllApart s e t (λ x. apart) apart
+apart_act s who _ apart = apart
 
 pub rows_after : (s : AbstractPool) (e : Entry) → RowsAreApart s → RowsAreApart (after s e)
 unfolding after noted

@@ -32,7 +32,7 @@ use Rattle.model_authority.specs.Lists.{numbered, edit}
 use Rattle.model_authority.specs.Statuses.{is_unsent_at}
 use Rattle.model_values.specs.declared.config.Config.{Config}
 use Rattle.model_values.specs.declared.entry.Act.{Act}
-use Rattle.model_values.specs.declared.entry.Act.TheVariants.{Submit, Cancel, Reprioritise, Preconnect, Resolved, Network, Tick, Shutdown, Dial, Orders, Reported, Closed, Expire, Lapse, Assign, Want, Evict}
+use Rattle.model_values.specs.declared.entry.Act.TheVariants.{Orders}
 use Rattle.model_values.specs.declared.entry.Entry.{Entry}
 use Rattle.model_values.specs.declared.order.OrderMark.{OrderMark}
 use Rattle.model_values.specs.declared.state.AbstractPool.{AbstractPool}
@@ -72,22 +72,7 @@ hands (Orders conn sent orders) c r h =
     let whole : ℕ → ConnNo = λ k. record { 0 = k } in
     let same : conn ≡ c = ap whole (eqb-true conn.0 c.0 parts.0) in
     record { sent = sent; orders = orders; is_orders = ap (λ (d : ConnNo). Orders d sent orders) same; starts = parts.1 }
-hands (Submit ask reply) c r h = absurd cc
-hands (Cancel e reply) c r h = absurd cc
-hands (Reprioritise e urgency reply) c r h = absurd cc
-hands (Preconnect key credentials origin count reply) c r h = absurd cc
-hands (Resolved key host addresses reply) c r h = absurd cc
-hands Network c r h = absurd cc
-hands Tick c r h = absurd cc
-hands (Shutdown reply) c r h = absurd cc
-hands (Dial conn target) c r h = absurd cc
-hands (Reported conn sent report) c r h = absurd cc
-hands (Closed conn sent end heard) c r h = absurd cc
-hands (Expire e) c r h = absurd cc
-hands (Lapse e) c r h = absurd cc
-hands (Assign e conn stream way) c r h = absurd cc
-hands (Want e conn target) c r h = absurd cc
-hands (Evict conn) c r h = absurd cc
+hands _ c r h = absurd cc
 
 -- behind it no lease on the stream is one whose start isn't handed
 handed_now : (c : ConnNo) (orders : List OrderMark) (r : StreamNo) (status : Status) → list_any (is_start_of r) orders ≡ true →

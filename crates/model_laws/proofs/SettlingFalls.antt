@@ -17,7 +17,7 @@ use Rattle.model_settling.specs.Settling.{has_passed, has_expired, has_lapsed, c
 use Rattle.model_steps.specs.After.{noted, after_expire, after_lapse, after_assign, wanted_connection, after_want_of, after_want, after_evict, after}
 use Rattle.model_steps.specs.Exchanges.{with_status, ended_by, timed_out_at, timed_out}
 use Rattle.model_values.specs.declared.entry.Act.{Act}
-use Rattle.model_values.specs.declared.entry.Act.TheVariants.{Submit, Cancel, Reprioritise, Preconnect, Resolved, Network, Tick, Shutdown, Dial, Orders, Reported, Closed, Expire, Lapse, Assign, Want, Evict}
+use Rattle.model_values.specs.declared.entry.Act.TheVariants.{Expire, Lapse, Assign, Want, Evict}
 use Rattle.model_values.specs.declared.entry.Way.{Way}
 use Rattle.model_values.specs.declared.order.OrderMark.TheVariants as mark
 use Rattle.model_values.specs.declared.outcome.Outcome.TheVariants as outcome
@@ -213,20 +213,9 @@ falls_evict s c h =
 
 -- whatever is due brings something down
 pub falls_due : (s : AbstractPool) (act : Act) → IsDue s act → Falls s (after s (record { who = record { 0 = 0 }; moment = s.latest; act = act }))
-falls_due s (Submit ask reply) h = absurd h
-falls_due s (Cancel e reply) h = absurd h
-falls_due s (Reprioritise e urgency reply) h = absurd h
-falls_due s (Preconnect key credentials origin count reply) h = absurd h
-falls_due s (Resolved key host addresses reply) h = absurd h
-falls_due s Network h = absurd h
-falls_due s Tick h = absurd h
-falls_due s (Shutdown reply) h = absurd h
-falls_due s (Dial c target) h = absurd h
-falls_due s (Orders c sent orders) h = absurd h
-falls_due s (Reported c sent report) h = absurd h
-falls_due s (Closed c sent cause heard) h = absurd h
 falls_due s (Expire e) h = falls_expire s e h
 falls_due s (Lapse e) h = falls_lapse s e h
 falls_due s (Assign e c r by) h = falls_assign s e c r by h
 falls_due s (Want e c t) h = falls_want s e c t h
 falls_due s (Evict c) h = falls_evict s c h
+falls_due s _ h = absurd h

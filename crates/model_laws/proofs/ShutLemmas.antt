@@ -23,7 +23,10 @@ use Rattle.model_laws.specs.Sound.{IsShutDown}
 use Rattle.model_histories.proofs.EditLemmas.{map_at}
 use Rattle.model_histories.specs.Histories.{opening, MayStand}
 use Rattle.model_histories.specs.Replies.{IsSubmitReply, IsPreconnectReply}
-use Rattle.model_steps.specs.After.{noted, after_submit, after_cancel, after_reprioritise, after_preconnect, after_resolved, after_network, after_shut, after_dial, after_orders, after_useless, is_useless, after_identity_of, after_open_of, after_open, after_answered, after_leases, after_alt_seen, after_report, is_dial_failed, after_failed_dial, after_closed, after_expire, after_lapse, after_assign, after_want_of, after_want, after_evict, sent_noted, after_act, after}
+use Rattle.model_steps.specs.After.{noted, after_submit, after_cancel, after_reprioritise, after_preconnect, after_resolved, after_network, after_shut, after_dial, after_orders, after_leases, after_alt_seen, after_report, after_expire, after_lapse, after_assign, after_want_of, after_want, after_evict, sent_noted, after_act, after}
+use Rattle.model_steps.specs.Opened.{after_useless, is_useless, after_identity_of, after_open_of, after_open}
+use Rattle.model_steps.specs.Answered.{after_answered}
+use Rattle.model_steps.specs.Lost.{is_dial_failed, after_failed_dial, after_closed}
 use Rattle.model_steps.specs.Exchanges.{ended_by, ended_unless}
 use Rattle.model_authority.proofs.NumberLemmas.{value_and}
 use Rattle.model_authority.specs.Lists.{numbered}

@@ -13,7 +13,7 @@ use Rattle.net_base.specs.declared.target.Target.{Target}
 use Rattle.net_base.specs.declared.target.Via.{Via}
 use Rattle.net_base.specs.declared.target.Via.TheVariants as via
 use Rattle.partition_keys.specs.declared.group.GroupKey.{GroupKey}
-use Rattle.model_changes.specs.Connections.{closing, without_stream, without_start, without_exchange, new_connection, dialing_by, after_opened, with_start, with_taken, with_limit, after_too_large, after_goaway, gone, after_shutdown, with_sent}
+use Rattle.model_changes.specs.Connections.{closing, without_stream, without_start, without_exchange, new_connection, dialing_by, after_opened, with_start, with_taken, with_limit, after_large_answer, going_away, gone, after_shutdown, with_sent}
 use Rattle.model_laws.proofs.RoomLemmas.{plan_within}
 use Rattle.model_histories.proofs.RunLemmas.{config-after}
 use Rattle.model_histories.specs.Histories.{opening, MayStand}
@@ -22,7 +22,10 @@ use Rattle.model_histories.specs.Replies.{IsSubmitReply, IsPreconnectReply}
 use Rattle.model_settling.specs.Counts.{openings_of}
 use Rattle.model_settling.specs.Room.{is_eligible, expects_h2, has_open_h2, has_numbers, is_total_full, has_room_in, has_room_but_total, has_room, room_left, planned}
 use Rattle.model_settling.specs.Settling.{IsDue, IsWant, can_open}
-use Rattle.model_steps.specs.After.{noted, after_submit, released_lease, released_by, released, after_cancel, after_reprioritise, after_preconnect, after_resolved, after_network, after_shut, after_dial, after_orders, ended_for, after_useless, is_useless, after_identity_of, after_open_of, after_open, connection_after_answer, after_answered, after_leases, after_alt_seen, after_report, is_dial_failed, after_failed_dial, after_closed, after_expire, after_lapse, after_assign, wanted_connection, after_want_of, after_want, after_evict, sent_noted, after_act, after}
+use Rattle.model_steps.specs.After.{noted, after_submit, released_lease, released_by, released, after_cancel, after_reprioritise, after_preconnect, after_resolved, after_network, after_shut, after_dial, after_orders, connection_after_answer, after_leases, after_alt_seen, after_report, after_expire, after_lapse, after_assign, wanted_connection, after_want_of, after_want, after_evict, sent_noted, after_act, after}
+use Rattle.model_steps.specs.Opened.{ended_for, after_useless, is_useless, after_identity_of, after_open_of, after_open}
+use Rattle.model_steps.specs.Answered.{after_answered}
+use Rattle.model_steps.specs.Lost.{is_dial_failed, after_failed_dial, after_closed}
 use Rattle.model_steps.specs.Exchanges.{new_exchange, with_status, ended_by, with_urgency, timed_out, ended_unless, ended_if_waiting, lease_after, handed_by}
 use Rattle.model_authority.proofs.NumberLemmas.{passing}
 use Rattle.model_authority.specs.Lists.{numbered, with_item, edit}
@@ -124,9 +127,9 @@ nothing_report s conn act (report.Answered r response keep alt proof) =
     (length-map s.exchanges (lease_after act), length_edit conn.0 (connection_after_answer s conn r keep act) s.connections)
 nothing_report s conn act (report.Refused r) = nothing_leases s conn act (without_stream s.latest r)
 nothing_report s conn act (report.Reset r code) = nothing_leases s conn act (without_stream s.latest r)
-nothing_report s conn act (report.TooLarge r) = nothing_leases s conn act (after_too_large s.latest r)
+nothing_report s conn act (report.TooLarge r) = nothing_leases s conn act (after_large_answer s.latest r)
 nothing_report s conn act (report.StreamClosed r) = (refl, length_edit conn.0 (without_stream s.latest r) s.connections)
-nothing_report s conn act (report.Goaway last) = nothing_leases s conn act (after_goaway s.latest conn s.exchanges last)
+nothing_report s conn act (report.Goaway last) = nothing_leases s conn act (going_away s.latest conn s.exchanges last)
 nothing_report s conn act (report.AltSeen origin alt) = by (numbered conn.0 s.connections)
   where
     by : (o : Option Connection) → AddsNothing s (after_alt_seen s origin alt o)

@@ -186,23 +186,12 @@ by_computed s act same h = elim (option_cases (due_of s)) [
 ]
 
 stable_due : (s : AbstractPool) (act : Act) → IsStable (IsDue s act)
-stable_due s (Submit ask reply) = stable_never
-stable_due s (Cancel e reply) = stable_never
-stable_due s (Reprioritise e urgency reply) = stable_never
-stable_due s (Preconnect key credentials origin count reply) = stable_never
-stable_due s (Resolved key host addresses reply) = stable_never
-stable_due s Network = stable_never
-stable_due s Tick = stable_never
-stable_due s (Shutdown reply) = stable_never
-stable_due s (Dial c target) = stable_never
-stable_due s (Orders c sent orders) = stable_never
-stable_due s (Reported c sent report) = stable_never
-stable_due s (Closed c sent cause heard) = stable_never
 stable_due s (Expire e) = by_computed s (Expire e) (λ o. some_expire o e)
 stable_due s (Lapse e) = by_computed s (Lapse e) (λ o. some_lapse o e)
 stable_due s (Assign e c r by) = by_computed s (Assign e c r by) (λ o. some_assign o e c r by)
 stable_due s (Want e c t) = by_computed s (Want e c t) (λ o. some_want o e c t)
 stable_due s (Evict c) = by_computed s (Evict c) (λ o. some_evict o c)
+stable_due s _ = stable_never
 
 stable_late : (s : AbstractPool) → IsStable (IsLate s)
 stable_late s h = elim (option_cases (due_of s)) [
@@ -227,11 +216,7 @@ stable_reply s who (Dial c target) = stable_dial s c target
 stable_reply s who (Orders c sent orders) = stable_at s who c sent (λ x. MayTake x orders) (λ x. stable_take x orders)
 stable_reply s who (Reported c sent report) = stable_at s who c sent (λ x. MayReport x report) (λ x. stable_report x report)
 stable_reply s who (Closed c sent cause heard) = stable_at s who c sent (λ x. MayClose x cause) (λ x. stable_close x cause)
-stable_reply s who (Expire e) = stable_never
-stable_reply s who (Lapse e) = stable_never
-stable_reply s who (Assign e c r by) = stable_never
-stable_reply s who (Want e c t) = stable_never
-stable_reply s who (Evict c) = stable_never
+stable_reply s who _ = stable_never
 
 -- an entry of the pool itself
 pools_stand : (s : AbstractPool) (e : Entry) → e.who.0 ≡ 0 → IsStable (MayStand s e)

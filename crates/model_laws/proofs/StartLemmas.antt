@@ -15,11 +15,14 @@ use Rattle.net_base.specs.declared.target.Target.{Target}
 use Rattle.net_base.specs.declared.target.Via.{Via}
 use Rattle.net_base.specs.declared.target.Via.TheVariants as via
 use Rattle.partition_keys.specs.declared.group.GroupKey.{GroupKey}
-use Rattle.model_changes.specs.Connections.{is_start_of, streams_started, closing, without_stream, without_start, without_exchange, new_connection, dialing_by, after_opened, with_start, with_taken, with_limit, after_too_large, after_goaway, gone, after_shutdown, with_sent}
+use Rattle.model_changes.specs.Connections.{is_start_of, streams_started, closing, without_stream, without_start, without_exchange, new_connection, dialing_by, after_opened, with_start, with_taken, with_limit, after_large_answer, going_away, gone, after_shutdown, with_sent}
 use Rattle.model_laws.proofs.StartSteps.{none_started, start_found, Keeps, Like, keeps_closing, keeps_without_stream, keeps_without_start, keeps_without_exchange, keeps_answered, keeps_after_too_large, keeps_after_goaway, keeps_after_opened, keeps_with_start, keeps_after_shutdown}
 use Rattle.model_histories.proofs.EditLemmas.{edit_other, edit_at, map_at, append_at, each_replicate, each_one}
 use Rattle.model_histories.specs.Reading.{hands_by}
-use Rattle.model_steps.specs.After.{after_submit, released_lease, released_by, released, after_cancel, after_reprioritise, after_preconnect, after_resolved, after_network, after_shut, after_dial, after_orders, after_useless, after_open_of, after_open, connection_after_answer, after_answered, after_leases, after_alt_seen, after_report, is_dial_failed, after_failed_dial, after_closed, after_expire, after_lapse, after_assign, wanted_connection, after_want_of, after_want, after_evict, sent_noted, after_act}
+use Rattle.model_steps.specs.After.{after_submit, released_lease, released_by, released, after_cancel, after_reprioritise, after_preconnect, after_resolved, after_network, after_shut, after_dial, after_orders, connection_after_answer, after_leases, after_alt_seen, after_report, after_expire, after_lapse, after_assign, wanted_connection, after_want_of, after_want, after_evict, sent_noted, after_act}
+use Rattle.model_steps.specs.Opened.{after_useless, after_open_of, after_open}
+use Rattle.model_steps.specs.Answered.{after_answered}
+use Rattle.model_steps.specs.Lost.{is_dial_failed, after_failed_dial, after_closed}
 use Rattle.model_authority.specs.Lists.{numbered, edit}
 use Rattle.model_authority.specs.Ways.{group_for}
 use Rattle.model_values.specs.declared.entry.Act.{Act}
@@ -117,9 +120,9 @@ like_report s c act (report.Limit n) = like_edit c.0 (with_limit n) s.connection
 like_report s c act (report.Answered r response keep alt proof) = like_edit c.0 (connection_after_answer s c r keep act) s.connections (keeps_answered s c r keep act)
 like_report s c act (report.Refused r) = like_edit c.0 (without_stream s.latest r) s.connections (keeps_without_stream s.latest r)
 like_report s c act (report.Reset r code) = like_edit c.0 (without_stream s.latest r) s.connections (keeps_without_stream s.latest r)
-like_report s c act (report.TooLarge r) = like_edit c.0 (after_too_large s.latest r) s.connections (keeps_after_too_large s.latest r)
+like_report s c act (report.TooLarge r) = like_edit c.0 (after_large_answer s.latest r) s.connections (keeps_after_too_large s.latest r)
 like_report s c act (report.StreamClosed r) = like_edit c.0 (without_stream s.latest r) s.connections (keeps_without_stream s.latest r)
-like_report s c act (report.Goaway last) = like_edit c.0 (after_goaway s.latest c s.exchanges last) s.connections (keeps_after_goaway s.latest c s.exchanges last)
+like_report s c act (report.Goaway last) = like_edit c.0 (going_away s.latest c s.exchanges last) s.connections (keeps_after_goaway s.latest c s.exchanges last)
 like_report s c act (report.AltSeen origin alt) = by (numbered c.0 s.connections)
   where
     by : (o : Option Connection) → AreLike s.connections (after_alt_seen s origin alt o).connections

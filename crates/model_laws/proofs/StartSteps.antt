@@ -9,9 +9,10 @@ use Rattle.net_base.specs.declared.numbers.ConnNo.{ConnNo}
 use Rattle.net_base.specs.declared.numbers.ExchangeNo.{ExchangeNo}
 use Rattle.net_base.specs.declared.numbers.Moment.{Moment}
 use Rattle.net_base.specs.declared.numbers.StreamNo.{StreamNo}
-use Rattle.model_changes.specs.Connections.{is_start, is_start_of, streams_started, closing, idle_from, has_run_out, idle_if_run_out, other_streams, without_stream, without_start, without_exchange, suits, opened_with, refused_with, after_opened, with_start, kept_open, without_reset, after_answer, excluding, after_too_large, streams_left, draining, draining_or_closing, after_goaway, gone, after_shutdown}
-use Rattle.model_changes.specs.Moves.{may_move}
-use Rattle.model_steps.specs.After.{lease_at, excluding_moved, connection_after_answer}
+use Rattle.model_changes.specs.Connections.{is_start, is_start_of, streams_started, closing, idle_from, has_run_out, idle_if_run_out, other_streams, without_stream, without_start, without_exchange, suits, opened_with, refused_with, after_opened, with_start, kept_open, without_reset, after_answer, excluding, after_large_answer, streams_left, draining, draining_or_closing, going_away, gone, after_shutdown}
+use Rattle.model_laws.specs.MoveLaws.{may_move}
+use Rattle.model_steps.specs.After.{excluding_moved, connection_after_answer}
+use Rattle.model_steps.specs.Answered.{lease_at}
 use Rattle.model_authority.specs.Lists.{is_nil}
 use Rattle.model_authority.specs.Statuses.{is_wanted, is_open, is_draining, is_closing, is_gone, speaks_h2}
 use Rattle.model_values.specs.declared.entry.Act.{Act}
@@ -107,8 +108,8 @@ keeps_excluding act (Some e) c = cond_both (may_move e act) (excluding e.ask.req
 pub keeps_answered : (s : AbstractPool) (conn : ConnNo) (r : StreamNo) (keep : Bool) (act : Act) → Keeps (connection_after_answer s conn r keep act)
 keeps_answered s conn r keep act c = keeps_after_answer s.latest r keep (excluding_moved act (lease_at s conn r) c) ∙ keeps_excluding act (lease_at s conn r) c
 
-pub keeps_after_too_large : (now : Moment) (r : StreamNo) → Keeps (after_too_large now r)
-unfolding after_too_large
+pub keeps_after_too_large : (now : Moment) (r : StreamNo) → Keeps (after_large_answer now r)
+unfolding after_large_answer
 keeps_after_too_large now r c = keeps_kept_open (speaks_h2 c) (without_stream now r c) ∙ keeps_without_stream now r c
 
 keeps_drained : Keeps draining_or_closing
@@ -116,8 +117,8 @@ keeps_drained c =
     cond_both (is_nil c.live) (closing c) (draining c) (Like c) (λ t. keeps_closing c)
     (λ f. cond_both (is_open c.phase) (record c { phase = Draining }) c (Like c) (λ t. refl) (λ g. refl))
 
-pub keeps_after_goaway : (now : Moment) (conn : ConnNo) (es : List Exchange) (last : StreamNo) → Keeps (after_goaway now conn es last)
-unfolding after_goaway
+pub keeps_after_goaway : (now : Moment) (conn : ConnNo) (es : List Exchange) (last : StreamNo) → Keeps (going_away now conn es last)
+unfolding going_away
 keeps_after_goaway now conn es last c =
     let less : Connection = record c { live = streams_left conn es last c.live; orders = filter (λ m. not (is_start m)) c.orders } in
     keeps_drained (idle_if_run_out now c less) ∙ keeps_run_out now c less

@@ -8,12 +8,13 @@ use Rattle.net_base.specs.declared.numbers.ConnNo.{ConnNo}
 use Rattle.net_base.specs.declared.numbers.ExchangeNo.{ExchangeNo}
 use Rattle.net_base.specs.declared.numbers.Moment.{Moment}
 use Rattle.net_base.specs.declared.numbers.StreamNo.{StreamNo}
-use Rattle.model_changes.specs.Connections.{closing, idle_from, has_run_out, idle_if_run_out, other_streams, is_start, is_start_of, without_stream, without_start, without_exchange, dialing_by, suits, opened_with, refused_with, after_opened, stream_after, with_start, kept_open, without_reset, after_answer, excluding, after_too_large, streams_left, draining, draining_or_closing, after_goaway, gone, after_shutdown}
-use Rattle.model_changes.specs.Moves.{may_move}
+use Rattle.model_changes.specs.Connections.{closing, idle_from, has_run_out, idle_if_run_out, other_streams, is_start, is_start_of, without_stream, without_start, without_exchange, dialing_by, suits, opened_with, refused_with, after_opened, stream_after, with_start, kept_open, without_reset, after_answer, excluding, after_large_answer, streams_left, draining, draining_or_closing, going_away, gone, after_shutdown}
+use Rattle.model_laws.specs.MoveLaws.{may_move}
 use Rattle.model_laws.specs.EndLaws.{stage_of}
 use Rattle.model_histories.proofs.EditLemmas.{edit_at, map_at, append_at}
 use Rattle.model_histories.proofs.KeepLemmas.{dialing_only}
-use Rattle.model_steps.specs.After.{lease_at, excluding_moved, connection_after_answer}
+use Rattle.model_steps.specs.After.{excluding_moved, connection_after_answer}
+use Rattle.model_steps.specs.Answered.{lease_at}
 use Rattle.model_authority.specs.Lists.{numbered, edit, is_nil}
 use Rattle.model_authority.specs.Statuses.{is_wanted, is_dialing, is_open, is_draining, is_closing, is_gone, is_busy, speaks_h2}
 use Rattle.model_values.specs.declared.entry.Act.{Act}
@@ -213,8 +214,8 @@ stays_answered s conn r keep act c =
     let moved : Connection = excluding_moved act (lease_at s conn r) c in
     stays_trans c moved (after_answer s.latest r keep moved) (stays_excluding act (lease_at s conn r) c) (stays_after_answer s.latest r keep moved)
 
-pub stays_after_too_large : (now : Moment) (r : StreamNo) (c : Connection) → Stays c (after_too_large now r c)
-unfolding after_too_large
+pub stays_after_too_large : (now : Moment) (r : StreamNo) (c : Connection) → Stays c (after_large_answer now r c)
+unfolding after_large_answer
 stays_after_too_large now r c =
     let left : Connection = without_stream now r c in
     stays_trans c left (kept_open (speaks_h2 c) left) (stays_without_stream now r c) (stays_kept_open (speaks_h2 c) left)
@@ -231,8 +232,8 @@ stays_draining c =
 stays_drained : (c : Connection) → Stays c (draining_or_closing c)
 stays_drained c = cond_both (is_nil c.live) (closing c) (draining c) (Stays c) (λ t. stays_closing c) (λ f. stays_draining c)
 
-pub stays_after_goaway : (now : Moment) (conn : ConnNo) (es : List Exchange) (last : StreamNo) (c : Connection) → Stays c (after_goaway now conn es last c)
-unfolding after_goaway
+pub stays_after_goaway : (now : Moment) (conn : ConnNo) (es : List Exchange) (last : StreamNo) (c : Connection) → Stays c (going_away now conn es last c)
+unfolding going_away
 stays_after_goaway now conn es last c =
     let less : Connection = record c { live = streams_left conn es last c.live; orders = filter (λ m. not (is_start m)) c.orders } in
     let left : Connection = idle_if_run_out now c less in

@@ -12,7 +12,7 @@ use Rattle.net_base.specs.declared.numbers.StreamNo.{StreamNo}
 use Rattle.net_base.specs.declared.target.Target.{Target}
 use Rattle.partition_keys.specs.declared.group.GroupKey.{GroupKey}
 use Rattle.partition_keys.specs.declared.key.PartitionKey.{PartitionKey}
-use Rattle.model_changes.specs.Connections.{closing, without_stream, without_start, without_exchange, new_connection, dialing_by, after_opened, with_start, with_taken, with_limit, after_too_large, after_goaway, after_shutdown, with_sent}
+use Rattle.model_changes.specs.Connections.{closing, without_stream, without_start, without_exchange, new_connection, dialing_by, after_opened, with_start, with_taken, with_limit, after_large_answer, going_away, after_shutdown, with_sent}
 use Rattle.model_laws.proofs.FitLemmas.{closes, same_item, IsWaitingAt, Gives, IsFit}
 use Rattle.model_laws.proofs.StayLemmas.{is_down, stage_gone, stays_phase, stays_closing, stays_without_stream, stays_without_start, stays_without_exchange, stays_answered, stays_after_too_large, stays_after_goaway, stays_after_shutdown, Turns, turns_dialing, turns_opened, turns_with_start, TurnsAt, turns_same, AreTurned, turned_same, turned_trans, turned_edit, turned_by, turned_map, turned_append}
 use Rattle.model_laws.specs.Sound.{IsShutDown}
@@ -20,7 +20,10 @@ use Rattle.model_histories.proofs.EditLemmas.{edit_here}
 use Rattle.model_histories.proofs.OwnLemmas.{IsOneEdit, IsGivenUp, one_after, gone_closed}
 use Rattle.model_histories.specs.Legal.{MayReport, MayClose}
 use Rattle.model_histories.specs.Replies.{IsPreconnectReply}
-use Rattle.model_steps.specs.After.{after_submit, released_lease, released_by, released, after_cancel, after_reprioritise, after_preconnect, after_resolved, after_network, after_shut, after_dial, after_orders, after_open_of, after_open, connection_after_answer, after_answered, after_alt_seen, after_report, after_closed, after_expire, after_lapse, after_assign, wanted_connection, after_want_of, after_want, after_evict, sent_noted, after_act}
+use Rattle.model_steps.specs.After.{after_submit, released_lease, released_by, released, after_cancel, after_reprioritise, after_preconnect, after_resolved, after_network, after_shut, after_dial, after_orders, connection_after_answer, after_alt_seen, after_report, after_expire, after_lapse, after_assign, wanted_connection, after_want_of, after_want, after_evict, sent_noted, after_act}
+use Rattle.model_steps.specs.Opened.{after_open_of, after_open}
+use Rattle.model_steps.specs.Answered.{after_answered}
+use Rattle.model_steps.specs.Lost.{after_closed}
 use Rattle.model_authority.proofs.NumberLemmas.{value_and, and_value}
 use Rattle.model_authority.specs.Lists.{numbered}
 use Rattle.model_authority.specs.Statuses.{is_waiting, has_ended, is_wanted, is_dialing, is_gone}
@@ -189,10 +192,10 @@ turned_report shut s c act (report.Answered r response keep alt proof) claim fit
     turned_by shut false c.0 (connection_after_answer s c r keep act) s.connections (stays_answered s c r keep act)
 turned_report shut s c act (report.Refused r) claim fit = turned_by shut false c.0 (without_stream s.latest r) s.connections (stays_without_stream s.latest r)
 turned_report shut s c act (report.Reset r code) claim fit = turned_by shut false c.0 (without_stream s.latest r) s.connections (stays_without_stream s.latest r)
-turned_report shut s c act (report.TooLarge r) claim fit = turned_by shut false c.0 (after_too_large s.latest r) s.connections (stays_after_too_large s.latest r)
+turned_report shut s c act (report.TooLarge r) claim fit = turned_by shut false c.0 (after_large_answer s.latest r) s.connections (stays_after_too_large s.latest r)
 turned_report shut s c act (report.StreamClosed r) claim fit = turned_by shut false c.0 (without_stream s.latest r) s.connections (stays_without_stream s.latest r)
 turned_report shut s c act (report.Goaway last) claim fit =
-    turned_by shut false c.0 (after_goaway s.latest c s.exchanges last) s.connections (stays_after_goaway s.latest c s.exchanges last)
+    turned_by shut false c.0 (going_away s.latest c s.exchanges last) s.connections (stays_after_goaway s.latest c s.exchanges last)
 turned_report shut s c act (report.AltSeen origin alt) claim fit = by (numbered c.0 s.connections)
   where
     by : (o : Option Connection) → AreTurned shut false s.connections (after_alt_seen s origin alt o).connections

@@ -18,7 +18,7 @@ use Rattle.model_settling.specs.Settling.{IsDue}
 use Rattle.model_steps.specs.After.{noted}
 use Rattle.model_values.specs.declared.config.Config.{Config}
 use Rattle.model_values.specs.declared.entry.Act.{Act}
-use Rattle.model_values.specs.declared.entry.Act.TheVariants.{Submit, Cancel, Reprioritise, Preconnect, Resolved, Network, Tick, Shutdown, Dial, Orders, Reported, Closed, Expire, Lapse, Assign, Want, Evict}
+use Rattle.model_values.specs.declared.entry.Act.TheVariants.{Orders, Reported, Closed}
 use Rattle.model_values.specs.declared.entry.Entry.{Entry}
 use Rattle.model_values.specs.declared.order.OrderMark.{OrderMark}
 use Rattle.model_values.specs.declared.report.Report.{Report}
@@ -104,23 +104,9 @@ workers_may_go_on_asking config h more who c sent goes works =
 
 -- it is no act of the pool itself
 not_due : (s : AbstractPool) (act : Act) → IsWorkersWord act → IsDue s act → ⊥
-not_due s (Submit ask reply) word due = word
-not_due s (Cancel x reply) word due = word
-not_due s (Reprioritise x urgency reply) word due = word
-not_due s (Preconnect key credentials origin count reply) word due = word
-not_due s (Resolved key host addresses reply) word due = word
-not_due s Network word due = word
-not_due s Tick word due = word
-not_due s (Shutdown reply) word due = word
-not_due s (Dial c target) word due = word
-not_due s (Orders c sent orders) word due = word
 not_due s (Reported c sent report) word due = due
 not_due s (Closed c sent cause heard) word due = due
-not_due s (Expire x) word due = word
-not_due s (Lapse x) word due = word
-not_due s (Assign x c r by) word due = word
-not_due s (Want x c t) word due = word
-not_due s (Evict c) word due = word
+not_due s _ word due = word
 
 -- the moment of an entry changes no connection
 still_replies : (config : Config) (who : CallerNo) (h more : List Entry) (m : Moment) (act : Act) → GoesOn config who h more → IsWorkersWord act →
@@ -128,21 +114,7 @@ still_replies : (config : Config) (who : CallerNo) (h more : List Entry) (m : Mo
 unfolding noted
 still_replies config who h more m (Reported c sent report) goes word reply = still_tells config who h more c sent report goes reply
 still_replies config who h more m (Closed c sent cause heard) goes word reply = still_ends config who h more c sent cause goes reply
-still_replies config who h more m (Submit ask reply) goes word r = absurd word
-still_replies config who h more m (Cancel x reply) goes word r = absurd word
-still_replies config who h more m (Reprioritise x urgency reply) goes word r = absurd word
-still_replies config who h more m (Preconnect key credentials origin count reply) goes word r = absurd word
-still_replies config who h more m (Resolved key host addresses reply) goes word r = absurd word
-still_replies config who h more m Network goes word r = absurd word
-still_replies config who h more m Tick goes word r = absurd word
-still_replies config who h more m (Shutdown reply) goes word r = absurd word
-still_replies config who h more m (Dial c target) goes word r = absurd word
-still_replies config who h more m (Orders c sent orders) goes word r = absurd word
-still_replies config who h more m (Expire x) goes word r = absurd word
-still_replies config who h more m (Lapse x) goes word r = absurd word
-still_replies config who h more m (Assign x c s by) goes word r = absurd word
-still_replies config who h more m (Want x c t) goes word r = absurd word
-still_replies config who h more m (Evict c) goes word r = absurd word
+still_replies config who h more m _ goes word r = absurd word
 
 pub workers_words_stay_legal : WorkersWordsStayLegal
 workers_words_stay_legal config h more e goes word legal = elim legal [

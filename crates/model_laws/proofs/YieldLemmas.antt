@@ -1,23 +1,25 @@
 -- What a change of an exchange leaves of it: its lease or none, and its end.
 use Rattle.std.proofs.Common.{◌≡◌, ℕ, List, Option, Some, None, Bool, true, false, refl, sym, ◌∙◌}
-use Rattle.std.specs.Prelude.{◌+◌, ◌&&◌, ◌==◌, not, nat_le}
+use Rattle.std.specs.Prelude.{◌&&◌, ◌==◌, not}
 use Rattle.std.specs.List.{list_any}
 use Rattle.std.proofs.lemmas.Bool.{cond_both, and_parts, both_ways, eqb-true, eqb-false, ne_eqb}
+use Rattle.net_base.specs.declared.end_cause.EndCause.{EndCause}
 use Rattle.net_base.specs.declared.numbers.ConnNo.{ConnNo}
 use Rattle.net_base.specs.declared.numbers.Moment.{Moment}
 use Rattle.net_base.specs.declared.numbers.StreamNo.{StreamNo}
+use Rattle.net_base.specs.declared.response.Response.{Response}
 use Rattle.model_changes.specs.Connections.{is_start_of}
-use Rattle.model_changes.specs.Moves.{lease_moves, may_move}
-use Rattle.model_laws.proofs.FitLemmas.{closes}
-use Rattle.model_steps.specs.Exchanges.{ended_by, timed_out_at, timed_out, ended_unless, ended_if_waiting, moved, marked_by, ended_at, ended_on, ended_by_report, ended_by_act, lease_after, handed_lease, handed_by}
+use Rattle.model_histories.proofs.CauseLemmas.{by_moved, by_refused, by_ended_at, by_left_out, by_answered, by_lost}
+use Rattle.model_laws.proofs.ExchangeSteps.{leased_at, leased_on, left_open}
+use Rattle.model_steps.specs.Exchanges.{ended_by, timed_out_at, timed_out, ended_unless, ended_if_waiting, moved, handed_lease, handed_by}
+use Rattle.model_steps.specs.Answered.{as_misdirected, answered}
+use Rattle.model_steps.specs.Goaway.{left_out}
+use Rattle.model_steps.specs.Lost.{as_retried, lost}
+use Rattle.model_steps.specs.StreamEnds.{refused, ended_at}
 use Rattle.model_authority.specs.Statuses.{is_waiting, has_ended, is_on, is_at, is_unsent_at}
-use Rattle.model_values.specs.declared.entry.Act.{Act}
-use Rattle.model_values.specs.declared.entry.Act.TheVariants.{Submit, Cancel, Reprioritise, Preconnect, Resolved, Network, Tick, Shutdown, Dial, Orders, Reported, Closed, Expire, Lapse, Assign, Want, Evict}
 use Rattle.model_values.specs.declared.order.OrderMark.{OrderMark}
 use Rattle.model_values.specs.declared.outcome.Outcome.{Outcome}
 use Rattle.model_values.specs.declared.outcome.Outcome.TheVariants as outcome
-use Rattle.model_values.specs.declared.report.Report.{Report}
-use Rattle.model_values.specs.declared.report.Report.TheVariants as report
 use Rattle.model_values.specs.declared.state.Exchange.{Exchange}
 use Rattle.model_values.specs.declared.state.Status.{Status}
 use Rattle.model_values.specs.declared.state.Status.TheVariants.{Waiting, Leased, Ended}
@@ -56,9 +58,6 @@ yields_timed_out e = by e.ask.deadline
     by None = yields_same e
     by (Some m) = yields_end none_ends (outcome.TimedOut m) e
 
-yields_ended_at : (c : ConnNo) (r : StreamNo) (how : Outcome) (e : Exchange) → Yields none_ends e (ended_at c r how e)
-yields_ended_at c r how e = cond_both (is_at c r e.status) (ended_by how e) e (Yields none_ends e) (λ t. yields_end none_ends how e) (λ f. yields_same e)
-
 -- a lease that isn't on the connection is on another
 lease_elsewhere : (conn c : ConnNo) (r : StreamNo) (status : Status) → is_on conn status ≡ false → is_at c r status ≡ true → (conn.0 == c.0) ≡ false
 lease_elsewhere conn c r Waiting f h = absurd cc
@@ -67,51 +66,8 @@ lease_elsewhere conn c r (Leased d t by handed) f h =
     ne_eqb conn.0 c.0 (λ e. eqb-false d.0 conn.0 f (here ∙ sym e))
 lease_elsewhere conn c r (Ended how) f h = absurd cc
 
-yields_ended_on : (conn : ConnNo) (how : Outcome) (e : Exchange) → Yields (λ n. conn.0 == n) e (ended_on conn how e)
-yields_ended_on conn how e =
-    cond_both (is_on conn e.status) (ended_by how e) e (Yields (λ n. conn.0 == n) e) (λ t. yields_end (λ n. conn.0 == n) how e)
-    (λ f. record { leases = λ c r h. (h, lease_elsewhere conn c r e.status f h); ended = λ h. h; unsent = λ c r h. h })
-
-yields_by_report : (c : ConnNo) (r : Report) (e : Exchange) → Yields none_ends e (ended_by_report c r e)
-yields_by_report c (report.Opened id) e = yields_same e
-yields_by_report c (report.Limit n) e = yields_same e
-yields_by_report c (report.Answered r response keep alt proof) e = yields_ended_at c r (outcome.Answered response) e
-yields_by_report c (report.Refused r) e = yields_same e
-yields_by_report c (report.Reset r code) e = yields_ended_at c r (outcome.Reset code) e
-yields_by_report c (report.TooLarge r) e = yields_ended_at c r outcome.TooLarge e
-yields_by_report c (report.StreamClosed r) e = yields_same e
-yields_by_report c (report.Goaway last) e = yields_same e
-yields_by_report c (report.AltSeen origin alt) e = yields_same e
-
-yields_by_act : (act : Act) (e : Exchange) → Yields (closes act) e (ended_by_act act e)
-yields_by_act (Submit ask reply) e = yields_same e
-yields_by_act (Cancel exchange reply) e = yields_same e
-yields_by_act (Reprioritise exchange urgency reply) e = yields_same e
-yields_by_act (Preconnect key credentials origin count reply) e = yields_same e
-yields_by_act (Resolved key host addresses reply) e = yields_same e
-yields_by_act Network e = yields_same e
-yields_by_act Tick e = yields_same e
-yields_by_act (Shutdown reply) e = yields_same e
-yields_by_act (Dial conn target) e = yields_same e
-yields_by_act (Orders conn sent orders) e = yields_same e
-yields_by_act (Reported conn sent report) e = yields_by_report conn report e
-yields_by_act (Closed conn sent cause heard) e = yields_ended_on conn (outcome.Lost conn cause) e
-yields_by_act (Expire exchange) e = yields_same e
-yields_by_act (Lapse exchange) e = yields_same e
-yields_by_act (Assign exchange conn r way) e = yields_same e
-yields_by_act (Want exchange conn target) e = yields_same e
-yields_by_act (Evict conn) e = yields_same e
-
-moving_goes_on : (e : Exchange) (status : Status) (act : Act) → lease_moves e status act ≡ true → has_ended status ≡ false
-moving_goes_on e Waiting act h = refl
-moving_goes_on e (Leased c r by handed) act h = refl
-moving_goes_on e (Ended how) act h = absurd cc
-
 moved_unleased : (c : ConnNo) (r : StreamNo) (e : Exchange) → is_at c r (moved e).status ≡ false
-unfolding moved
-moved_unleased c r e =
-    cond_both (nat_le 5 e.moves) (ended_by outcome.TooManyMoves e) (record e { status = Waiting; moves = e.moves + 1 }) (λ (x : Exchange). is_at c r x.status ≡ false)
-    (λ t. refl) (λ f. refl)
+moved_unleased c r e = by_moved (λ x. is_at c r x.status ≡ false) e refl (λ f. refl)
 
 -- one whose start isn't handed has the lease
 pub unsent_leased : (c : ConnNo) (r : StreamNo) (status : Status) → is_unsent_at c r status ≡ true → is_at c r status ≡ true
@@ -119,18 +75,33 @@ unsent_leased c r Waiting h = absurd cc
 unsent_leased c r (Leased d t way handed) h = (and_parts (d.0 == c.0 && t.0 == r.0) (not handed) h).0
 unsent_leased c r (Ended how) h = absurd cc
 
-pub yields_lease_after : (act : Act) (e : Exchange) → Yields (closes act) e (lease_after act e)
-unfolding lease_after may_move
-yields_lease_after act e =
-    cond_both (may_move e act) (moved (marked_by act e)) (ended_by_act act e) (Yields (closes act) e)
-    (λ t. record {
-      leases = λ c r h. absurd (both_ways (is_at c r (moved (marked_by act e)).status) (moved_unleased c r (marked_by act e)) h);
-      ended = λ h. absurd (both_ways (has_ended e.status) (moving_goes_on e e.status act t) h);
-      unsent = λ c r h.
-          let status : Status = (moved (marked_by act e)).status in
-          absurd (both_ways (is_at c r status) (moved_unleased c r (marked_by act e)) (unsent_leased c r status h));
-    })
-    (λ f. yields_by_act act e)
+-- one that moves had a lease, and has none. m is the exchange with its marks
+yields_moved : (ends : ℕ → Bool) (e m : Exchange) → has_ended e.status ≡ false → Yields ends e (moved m)
+yields_moved ends e m open_lease = record {
+  leases = λ c r h. absurd (both_ways (is_at c r (moved m).status) (moved_unleased c r m) h);
+  ended = λ h. absurd (both_ways (has_ended e.status) open_lease h);
+  unsent = λ c r h. absurd (both_ways (is_at c r (moved m).status) (moved_unleased c r m) (unsent_leased c r (moved m).status h));
+}
+
+pub yields_answered : (c : ConnNo) (r : StreamNo) (response : Response) (e : Exchange) → Yields none_ends e (answered c r response e)
+yields_answered c r response e =
+    by_answered (Yields none_ends e) c r response e (λ t m. yields_moved none_ends e (as_misdirected e) (leased_at c r e.status t))
+    (λ t. yields_end none_ends (outcome.Answered response) e) (yields_same e)
+
+pub yields_refused : (c : ConnNo) (r : StreamNo) (e : Exchange) → Yields none_ends e (refused c r e)
+yields_refused c r e = by_refused (Yields none_ends e) c r e (λ t. yields_moved none_ends e e (leased_at c r e.status t)) (yields_same e)
+
+pub yields_ended_at : (c : ConnNo) (r : StreamNo) (how : Outcome) (e : Exchange) → Yields none_ends e (ended_at c r how e)
+yields_ended_at c r how e = by_ended_at (Yields none_ends e) c r how e (λ t. yields_end none_ends how e) (yields_same e)
+
+pub yields_left_out : (c : ConnNo) (last : StreamNo) (e : Exchange) → Yields none_ends e (left_out c last e)
+yields_left_out c last e = by_left_out (Yields none_ends e) c last e (λ t. yields_moved none_ends e e (left_open c last e.status t)) (yields_same e)
+
+pub yields_lost : (c : ConnNo) (cause : EndCause) (heard : List StreamNo) (e : Exchange) → Yields (λ n. c.0 == n) e (lost c cause heard e)
+yields_lost c cause heard e =
+    let ends : ℕ → Bool = λ n. c.0 == n in
+    by_lost (Yields ends e) c cause heard e (λ t m. yields_moved ends e (as_retried e) (leased_on c e.status t)) (λ t f. yields_end ends (outcome.Lost c cause) e)
+    (λ f. record { leases = λ d r h. (h, lease_elsewhere c d r e.status f h); ended = λ h. h; unsent = λ d r h. h })
 
 -- the handing of a start keeps its lease
 handed_at : (conn : ConnNo) (orders : List OrderMark) (c : ConnNo) (r : StreamNo) (status : Status) → is_at c r (handed_lease conn orders status) ≡ true → is_at c r status ≡ true

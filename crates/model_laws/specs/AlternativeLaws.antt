@@ -21,10 +21,11 @@ use Rattle.model_values.specs.declared.state.Connection.{Connection}
 use Rattle.model_values.specs.declared.state.Exchange.{Exchange}
 use Rattle.model_authority.specs.Ways.{alternatives_of, alternative_target}
 
--- RFC 8164, sections 2 and 2.1: over this alternative http may go, to a server that has proven it, or for the proof itself
-pub record IsOpportune (now : Moment) (x : Exchange) (a : Alternative) : Type 0 where
+-- RFC 8164, sections 2 and 2.1: over this alternative http may go, to a server that has proven it, or for the proof itself. That
+-- HTTP/2 alone is left is this project's own
+pub record IsOpportune (now : Moment) (exchange : Exchange) (a : Alternative) : Type 0 where
   pub h2 : a.proto ≡ H2
-  pub proven : (now.0 < a.proven_until.0) ⊎ (x.ask.probe ≡ true)
+  pub proven : (now.0 < a.proven_until.0) ⊎ (exchange.ask.probe ≡ true)
 
 -- RFC 8164, section 2.2: the connection was opened for https and the exchange's origin is https, or it was opened for this very http
 -- origin
@@ -34,23 +35,23 @@ MayShare opened_for own = ((opened_for.scheme ≡ Https) × (own.scheme ≡ Http
 -- the connection goes to an alternative of the exchange's origin that is fresh at this moment (RFC 7838, sections 2.2 and 2.4; that an
 -- open connection isn't used on afterwards is this project's own), speaks its protocol and answers for the origin's host (RFC 7838,
 -- sections 2.1 and 2.4; RFC 8164, section 2.1), was opened for an origin with which this one may share it, and for http is opportune
-pub record GoesToFreshAlternative (s : AbstractPool) (now : Moment) (x : Exchange) (y : Connection) : Type 0 where
+pub record GoesToFreshAlternative (s : AbstractPool) (now : Moment) (exchange : Exchange) (connection : Connection) : Type 0 where
   pub alternative : Alternative
-  pub is_one : Contains (alternatives_of s x.ask.key x.ask.request.origin) alternative
+  pub is_one : Contains (alternatives_of s exchange.ask.key exchange.ask.request.origin) alternative
   pub fresh : IsTrue (is_fresh alternative now)
-  pub target : y.group.target ≡ alternative_target alternative
-  pub authority : AnswersFor x.ask.request.origin.host y.identity
+  pub target : connection.group.target ≡ alternative_target alternative
+  pub authority : AnswersFor exchange.ask.request.origin.host connection.identity
   pub protocol : authority.identity.proto ≡ alternative.proto
-  pub shares : MayShare y.group.origin x.ask.request.origin
-  pub opportune : x.ask.request.origin.scheme ≡ Http → IsOpportune now x alternative
+  pub shares : MayShare connection.group.origin exchange.ask.request.origin
+  pub opportune : exchange.ask.request.origin.scheme ≡ Http → IsOpportune now exchange alternative
 
 -- at each Assign of a history by the alternative way, at the greatest moment so far
 abbrev pub AlternativesAreFresh : Type 0
 AlternativesAreFresh =
-    (config : Config) (h : List Entry) (n : ℕ) (e : Entry) (x : ExchangeNo) (c : ConnNo) (r : StreamNo) →
-    Comes config h n e → e.act ≡ Assign x c r way.Alternative → OfBoth (state_at config h n) x c (GoesToFreshAlternative (state_at config h n) (moment_at h n))
+    (config : Config) (h : List Entry) (n : ℕ) (x : Entry) (e : ExchangeNo) (c : ConnNo) (r : StreamNo) →
+    Comes config h n x → x.act ≡ Assign e c r way.Alternative → OfBoth (state_at config h n) e c (GoesToFreshAlternative (state_at config h n) (moment_at h n))
 
--- at each state of a history at most 1024 pairs of a partition key and an origin have alternatives. The number is this project's
--- own
+-- at each state of a history there are rows of alternatives for at most 1024 pairs of a partition key and an origin. The number is
+-- this project's own
 abbrev pub AlternativesAreFew : Type 0
 AlternativesAreFew = (config : Config) (h : List Entry) (n : ℕ) → IsHistory config h → length (state_at config h n).alternatives ≤ 1024

@@ -23,13 +23,13 @@ pub record AnswersFor (host : List ℕ) (shown : Option Identity) : Type 0 where
   pub covers : Covers identity host
 
 -- the connection was opened for the exchange's partition key and credentials, and for an https origin its other side answers
-pub record IsKeptApart (x : Exchange) (y : Connection) : Type 0 where
-  pub key : y.group.key ≡ x.ask.key
-  pub credentials : y.group.credentials ≡ x.ask.credentials
-  pub authority : x.ask.request.origin.scheme ≡ Https → AnswersFor x.ask.request.origin.host y.identity
+pub record IsKeptApart (exchange : Exchange) (connection : Connection) : Type 0 where
+  pub key : connection.group.key ≡ exchange.ask.key
+  pub credentials : connection.group.credentials ≡ exchange.ask.credentials
+  pub authority : exchange.ask.request.origin.scheme ≡ Https → AnswersFor exchange.ask.request.origin.host connection.identity
 
 -- at each Assign of a history
 abbrev pub KeepsApart : Type 0
 KeepsApart =
-    (config : Config) (h : List Entry) (n : ℕ) (e : Entry) (x : ExchangeNo) (c : ConnNo) (r : StreamNo) (by : Way) →
-    Comes config h n e → e.act ≡ Assign x c r by → OfBoth (state_at config h n) x c IsKeptApart
+    (config : Config) (h : List Entry) (n : ℕ) (x : Entry) (e : ExchangeNo) (c : ConnNo) (r : StreamNo) (by : Way) →
+    Comes config h n x → x.act ≡ Assign e c r by → OfBoth (state_at config h n) e c IsKeptApart

@@ -21,9 +21,9 @@ abbrev pub moment_at : List Entry → ℕ → Moment
 moment_at h n = record { 0 = now_of (take n h) }
 
 -- in a history, this entry comes after n others
-pub record Comes (config : Config) (h : List Entry) (n : ℕ) (e : Entry) : Type 0 where
+pub record Comes (config : Config) (h : List Entry) (n : ℕ) (x : Entry) : Type 0 where
   pub history : IsHistory config h
-  pub is_entry : slice_get h n ≡ Some e
+  pub is_entry : slice_get h n ≡ Some x
 
 -- the fact holds of the exchange of this number
 abbrev pub OfExchange : AbstractPool → ExchangeNo → (Exchange → Type 0) → Type 0
@@ -35,4 +35,4 @@ OfConnection s c P = IsSomeAnd (numbered c.0 s.connections) P
 
 -- the fact holds of the exchange and the connection of these numbers
 abbrev pub OfBoth : AbstractPool → ExchangeNo → ConnNo → (Exchange → Connection → Type 0) → Type 0
-OfBoth s e c P = OfExchange s e (λ x. OfConnection s c (λ y. P x y))
+OfBoth s e c P = OfExchange s e (λ exchange. OfConnection s c (λ connection. P exchange connection))

@@ -28,14 +28,14 @@ use Rattle.model_authority.specs.Statuses.{is_closing}
 -- an exchange that has ended stays so, with its outcome
 abbrev pub EndedStaysEnded : Type 0
 EndedStaysEnded =
-    (config : Config) (h : List Entry) (n m : ℕ) (x : ExchangeNo) (how : Outcome) → IsHistory config h → n ≤ m →
-    OfExchange (state_at config h n) x (λ e. e.status ≡ Ended how) → OfExchange (state_at config h m) x (λ e. e.status ≡ Ended how)
+    (config : Config) (h : List Entry) (n m : ℕ) (e : ExchangeNo) (how : Outcome) → IsHistory config h → n ≤ m →
+    OfExchange (state_at config h n) e (λ exchange. exchange.status ≡ Ended how) → OfExchange (state_at config h m) e (λ exchange. exchange.status ≡ Ended how)
 
 -- a connection that is gone stays gone
 abbrev pub GoneStaysGone : Type 0
 GoneStaysGone =
     (config : Config) (h : List Entry) (n m : ℕ) (c : ConnNo) → IsHistory config h → n ≤ m →
-    OfConnection (state_at config h n) c (λ y. y.phase ≡ Gone) → OfConnection (state_at config h m) c (λ y. y.phase ≡ Gone)
+    OfConnection (state_at config h n) c (λ connection. connection.phase ≡ Gone) → OfConnection (state_at config h m) c (λ connection. connection.phase ≡ Gone)
 
 -- the phases of a connection in their order
 abbrev pub stage_of : Phase → ℕ
@@ -49,36 +49,36 @@ stage_of Gone = 5
 -- a connection never goes back: one that drains or closes isn't open again
 abbrev pub ConnectionsGoForward : Type 0
 ConnectionsGoForward =
-    (config : Config) (h : List Entry) (n m : ℕ) (c : ConnNo) (x : Connection) → IsHistory config h → n ≤ m →
-    numbered c.0 (state_at config h n).connections ≡ Some x → OfConnection (state_at config h m) c (λ y. stage_of x.phase ≤ stage_of y.phase)
+    (config : Config) (h : List Entry) (n m : ℕ) (c : ConnNo) (connection : Connection) → IsHistory config h → n ≤ m →
+    numbered c.0 (state_at config h n).connections ≡ Some connection → OfConnection (state_at config h m) c (λ later. stage_of connection.phase ≤ stage_of later.phase)
 
 -- at each Assign of a history the connection is open: one that drains, closes or is gone gets no exchange
 abbrev pub OnlyOpenOnesAreAssigned : Type 0
 OnlyOpenOnesAreAssigned =
-    (config : Config) (h : List Entry) (n : ℕ) (e : Entry) (x : ExchangeNo) (c : ConnNo) (r : StreamNo) (by : Way) →
-    Comes config h n e → e.act ≡ Assign x c r by → OfConnection (state_at config h n) c (λ y. y.phase ≡ Open)
+    (config : Config) (h : List Entry) (n : ℕ) (x : Entry) (e : ExchangeNo) (c : ConnNo) (r : StreamNo) (by : Way) →
+    Comes config h n x → x.act ≡ Assign e c r by → OfConnection (state_at config h n) c (λ connection. connection.phase ≡ Open)
 
 -- a worker that takes the orders of a connection that closes is to start nothing
 abbrev pub ClosingOnesStartNothing : Type 0
 ClosingOnesStartNothing =
-    (config : Config) (h : List Entry) (n : ℕ) (e : Entry) (c : ConnNo) (sent : ℕ) (orders : List OrderMark) (y : Connection) →
-    Comes config h n e → e.act ≡ Orders c sent orders → numbered c.0 (state_at config h n).connections ≡ Some y → IsTrue (is_closing y.phase) → streams_started orders ≡ []
+    (config : Config) (h : List Entry) (n : ℕ) (x : Entry) (c : ConnNo) (sent : ℕ) (orders : List OrderMark) (connection : Connection) →
+    Comes config h n x → x.act ≡ Orders c sent orders → numbered c.0 (state_at config h n).connections ≡ Some connection → IsTrue (is_closing connection.phase) → streams_started orders ≡ []
 
 -- behind the entry by which its worker gives it up a connection is gone
 abbrev pub ClosedOnesAreGone : Type 0
 ClosedOnesAreGone =
-    (config : Config) (h : List Entry) (n : ℕ) (e : Entry) (c : ConnNo) (sent : ℕ) (cause : EndCause) (heard : List StreamNo) →
-    Comes config h n e → e.act ≡ Closed c sent cause heard → OfConnection (state_at config h (n + 1)) c (λ y. y.phase ≡ Gone)
+    (config : Config) (h : List Entry) (n : ℕ) (x : Entry) (c : ConnNo) (sent : ℕ) (cause : EndCause) (heard : List StreamNo) →
+    Comes config h n x → x.act ≡ Closed c sent cause heard → OfConnection (state_at config h (n + 1)) c (λ connection. connection.phase ≡ Gone)
 
 -- the entry takes no exchange, assigns none, and makes or dials no connection
 abbrev pub BeginsNothing : Act → Type 0
-BeginsNothing (Submit ask reply) = (x : ExchangeNo) → reply ≢ submit.Accepted x
+BeginsNothing (Submit ask reply) = (e : ExchangeNo) → reply ≢ submit.Accepted e
 BeginsNothing (Preconnect key credentials origin count reply) = (k : ℕ) → reply ≢ preconnect.Opening k
 BeginsNothing (Dial c target) = ⊥
-BeginsNothing (Assign x c r by) = ⊥
-BeginsNothing (Want x c t) = ⊥
-BeginsNothing (Cancel x reply) = ⊤
-BeginsNothing (Reprioritise x urgency reply) = ⊤
+BeginsNothing (Assign e c r by) = ⊥
+BeginsNothing (Want e c t) = ⊥
+BeginsNothing (Cancel e reply) = ⊤
+BeginsNothing (Reprioritise e urgency reply) = ⊤
 BeginsNothing (Resolved key host addresses reply) = ⊤
 BeginsNothing Network = ⊤
 BeginsNothing Tick = ⊤
@@ -86,16 +86,16 @@ BeginsNothing (Shutdown reply) = ⊤
 BeginsNothing (Orders c sent orders) = ⊤
 BeginsNothing (Reported c sent report) = ⊤
 BeginsNothing (Closed c sent cause heard) = ⊤
-BeginsNothing (Expire x) = ⊤
-BeginsNothing (Lapse x) = ⊤
+BeginsNothing (Expire e) = ⊤
+BeginsNothing (Lapse e) = ⊤
 BeginsNothing (Evict c) = ⊤
 
 -- behind a shutdown each entry begins nothing
 abbrev pub NothingBeginsAfterShutdown : Type 0
 NothingBeginsAfterShutdown =
-    (config : Config) (h : List Entry) (n m : ℕ) (e f : Entry) → Comes config h n e → e.act ≡ Shutdown shut.Noted → n < m → Comes config h m f → BeginsNothing f.act
+    (config : Config) (h : List Entry) (n m : ℕ) (x y : Entry) → Comes config h n x → x.act ≡ Shutdown shut.Noted → n < m → Comes config h m y → BeginsNothing y.act
 
 -- and each exchange has ended and no connection is wanted, open or draining: one that was being dialed closes once it is up
 abbrev pub NothingIsOpenAfterShutdown : Type 0
 NothingIsOpenAfterShutdown =
-    (config : Config) (h : List Entry) (n m : ℕ) (e : Entry) → Comes config h n e → e.act ≡ Shutdown shut.Noted → n < m → IsShutDown (state_at config h m)
+    (config : Config) (h : List Entry) (n m : ℕ) (x : Entry) → Comes config h n x → x.act ≡ Shutdown shut.Noted → n < m → IsShutDown (state_at config h m)

@@ -15,8 +15,8 @@ use Rattle.model_authority.specs.Statuses.{is_at}
 -- each Assign of a history begins a lease
 abbrev pub AssignsBeginLeases : Type 0
 AssignsBeginLeases =
-    (config : Config) (h : List Entry) (n : ℕ) (e : Entry) (x : ExchangeNo) (c : ConnNo) (r : StreamNo) (by : Way) →
-    Comes config h n e → e.act ≡ Assign x c r by → (over : Option ℕ) × IsLeaseOf config h x c r (n + 1) over
+    (config : Config) (h : List Entry) (n : ℕ) (x : Entry) (e : ExchangeNo) (c : ConnNo) (r : StreamNo) (by : Way) →
+    Comes config h n x → x.act ≡ Assign e c r by → (over : Option ℕ) × IsLeaseOf config h e c r (n + 1) over
 
 -- of two leases of one exchange the first has ended before the second begins
 abbrev pub LeasesDontOverlap : Type 0
@@ -28,4 +28,4 @@ LeasesDontOverlap =
 abbrev pub StreamsAreLeasedOnce : Type 0
 StreamsAreLeasedOnce =
     (config : Config) (h : List Entry) (n : ℕ) (e f : ExchangeNo) (c : ConnNo) (r : StreamNo) → IsHistory config h →
-    OfExchange (state_at config h n) e (λ x. IsTrue (is_at c r x.status)) → OfExchange (state_at config h n) f (λ x. IsTrue (is_at c r x.status)) → e ≡ f
+    OfExchange (state_at config h n) e (λ exchange. IsTrue (is_at c r exchange.status)) → OfExchange (state_at config h n) f (λ exchange. IsTrue (is_at c r exchange.status)) → e ≡ f

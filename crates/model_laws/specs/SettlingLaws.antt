@@ -15,27 +15,27 @@ use Rattle.model_authority.specs.Ways.{is_usable}
 
 -- at each state at most one entry of the pool itself is legal
 abbrev pub SettlingIsDetermined : Type 0
-SettlingIsDetermined = (s : AbstractPool) (e f : Entry) → IsPoolsEntry s e → IsPoolsEntry s f → e ≡ f
+SettlingIsDetermined = (s : AbstractPool) (x y : Entry) → IsPoolsEntry s x → IsPoolsEntry s y → x ≡ y
 
 -- each of these entries is the pool's own, and legal where it stands
 abbrev pub AreSettling : AbstractPool → List Entry → Type 0
 AreSettling s [] = ⊤
-AreSettling s (e ∷ es) = IsPoolsEntry s e × AreSettling (after s e) es
+AreSettling s (x ∷ xs) = IsPoolsEntry s x × AreSettling (after s x) xs
 
 -- these entries of the pool itself lead to a settled state
-pub record Settles (s : AbstractPool) (es : List Entry) : Type 0 where
-  pub own : AreSettling s es
-  pub settled : IsSettled (run_from s es)
+pub record Settles (s : AbstractPool) (xs : List Entry) : Type 0 where
+  pub own : AreSettling s xs
+  pub settled : IsSettled (run_from s xs)
 
 -- from each state finitely many entries of the pool itself lead to a settled one
 abbrev pub SettlingEnds : Type 0
-SettlingEnds = (s : AbstractPool) → (es : List Entry) × Settles s es
+SettlingEnds = (s : AbstractPool) → (xs : List Entry) × Settles s xs
 
 -- the exchange of this number has neither a usable connection nor room
-pub record HasNowhereToGo (s : AbstractPool) (number : ℕ) (x : Exchange) : Type 0 where
-  pub no_connection : (c : ℕ) (y : Connection) → numbered c s.connections ≡ Some y → ¬ IsTrue (is_usable s x y)
-  pub no_room : ¬ IsTrue (has_room s number x)
+pub record HasNowhereToGo (s : AbstractPool) (number : ℕ) (exchange : Exchange) : Type 0 where
+  pub no_connection : (c : ℕ) (connection : Connection) → numbered c s.connections ≡ Some connection → ¬ IsTrue (is_usable s exchange connection)
+  pub no_room : ¬ IsTrue (has_room s number exchange)
 
 -- at each settled state no eligible exchange has a usable connection or room
 abbrev pub NoneWaits : Type 0
-NoneWaits = (s : AbstractPool) (number : ℕ) (x : Exchange) → IsSettled s → numbered number s.exchanges ≡ Some x → IsTrue (is_eligible s x) → HasNowhereToGo s number x
+NoneWaits = (s : AbstractPool) (number : ℕ) (exchange : Exchange) → IsSettled s → numbered number s.exchanges ≡ Some exchange → IsTrue (is_eligible s exchange) → HasNowhereToGo s number exchange

@@ -10,7 +10,7 @@ use Rattle.model_histories.specs.Reading.{calls_of, own_of}
 use Rattle.model_histories.specs.Working.{MayWorkAt}
 use Rattle.model_values.specs.declared.config.Config.{Config}
 use Rattle.model_values.specs.declared.entry.Act.{Act}
-use Rattle.model_values.specs.declared.entry.Act.TheVariants.{Submit, Cancel, Reprioritise, Preconnect, Resolved, Network, Tick, Shutdown, Dial, Orders, Reported, Closed, Expire, Lapse, Assign, Want, Evict}
+use Rattle.model_values.specs.declared.entry.Act.TheVariants.{Orders, Reported, Closed}
 use Rattle.model_values.specs.declared.entry.Entry.{Entry}
 use Rattle.model_values.specs.declared.order.OrderMark.{OrderMark}
 
@@ -25,33 +25,19 @@ pub record GoesOn (config : Config) (who : CallerNo) (h more : List Entry) : Typ
 abbrev pub IsWorkersWord : Act → Type 0
 IsWorkersWord (Reported c sent report) = ⊤
 IsWorkersWord (Closed c sent cause heard) = ⊤
-IsWorkersWord (Submit ask reply) = ⊥
-IsWorkersWord (Cancel x reply) = ⊥
-IsWorkersWord (Reprioritise x urgency reply) = ⊥
-IsWorkersWord (Preconnect key credentials origin count reply) = ⊥
-IsWorkersWord (Resolved key host addresses reply) = ⊥
-IsWorkersWord Network = ⊥
-IsWorkersWord Tick = ⊥
-IsWorkersWord (Shutdown reply) = ⊥
-IsWorkersWord (Dial c target) = ⊥
-IsWorkersWord (Orders c sent orders) = ⊥
-IsWorkersWord (Expire x) = ⊥
-IsWorkersWord (Lapse x) = ⊥
-IsWorkersWord (Assign x c r by) = ⊥
-IsWorkersWord (Want x c t) = ⊥
-IsWorkersWord (Evict c) = ⊥
+IsWorkersWord _ = ⊥
 
 -- a worker's word that is legal stays legal
 abbrev pub WorkersWordsStayLegal : Type 0
 WorkersWordsStayLegal =
-    (config : Config) (h more : List Entry) (e : Entry) → GoesOn config e.who h more → IsWorkersWord e.act → IsLegal (run config h) e → IsLegal (run config (h ++ more)) e
+    (config : Config) (h more : List Entry) (x : Entry) → GoesOn config x.who h more → IsWorkersWord x.act → IsLegal (run config h) x → IsLegal (run config (h ++ more)) x
 
 -- where a worker may legally take the orders of its connection, it may afterwards take those that are pending then, or there are none
 abbrev pub WorkersMayGoOnTaking : Type 0
 WorkersMayGoOnTaking =
-    (config : Config) (h more : List Entry) (e : Entry) (c : ConnNo) (sent : ℕ) (orders : List OrderMark) →
-    GoesOn config e.who h more → e.act ≡ Orders c sent orders → IsLegal (run config h) e →
-    OfConnection (run config (h ++ more)) c (λ y. (y.orders ≡ []) ⊎ IsLegal (run config (h ++ more)) (record e { act = Orders c sent y.orders }))
+    (config : Config) (h more : List Entry) (x : Entry) (c : ConnNo) (sent : ℕ) (orders : List OrderMark) →
+    GoesOn config x.who h more → x.act ≡ Orders c sent orders → IsLegal (run config h) x →
+    OfConnection (run config (h ++ more)) c (λ connection. (connection.orders ≡ []) ⊎ IsLegal (run config (h ++ more)) (record x { act = Orders c sent connection.orders }))
 
 -- and where it may ask for the orders of its connection it may go on to ask
 abbrev pub WorkersMayGoOnAsking : Type 0

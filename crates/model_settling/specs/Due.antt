@@ -97,7 +97,7 @@ want_due s = want_best s (least_of (can_open s) urgency_of s.exchanges)
 
 -- a connection has to make room
 unfoldable pub must_evict : AbstractPool → Bool
-must_evict s = is_total_full s && not (list_any (λ x. is_closing x.phase) s.connections) && is_some (lowest_of (is_held_back s) s.exchanges)
+must_evict s = is_total_full s && not (list_any (λ c. is_closing c.phase) s.connections) && is_some (lowest_of (is_held_back s) s.exchanges)
 
 unfoldable pub evict_due : AbstractPool → Option Due
 evict_due s = if must_evict s then evict_best (least_of is_idle idle_since_of s.connections) else None

@@ -92,7 +92,7 @@ pub record IsAssign (s : AbstractPool) (e : ExchangeNo) (c : ConnNo) (stream : S
 pub record IsWant (s : AbstractPool) (e : ExchangeNo) (c : ConnNo) (target : Target) : Type 0 where
   pub no_expire : (other : ExchangeNo) → ¬ IsExpire s other
   pub no_lapse : (other : ExchangeNo) → ¬ IsLapse s other
-  pub no_assign : (x : ExchangeNo) (y : ConnNo) (r : StreamNo) (by : Way) → ¬ IsAssign s x y r by
+  pub no_assign : (f : ExchangeNo) (d : ConnNo) (r : StreamNo) (by : Way) → ¬ IsAssign s f d r by
   pub least : IsLeast (can_open s) urgency_of s.exchanges e.0
   pub exchange : Exchange
   pub is_exchange : numbered e.0 s.exchanges ≡ Some exchange
@@ -104,10 +104,10 @@ pub record IsWant (s : AbstractPool) (e : ExchangeNo) (c : ConnNo) (target : Tar
 pub record IsEvict (s : AbstractPool) (c : ConnNo) : Type 0 where
   pub no_expire : (other : ExchangeNo) → ¬ IsExpire s other
   pub no_lapse : (other : ExchangeNo) → ¬ IsLapse s other
-  pub no_assign : (x : ExchangeNo) (y : ConnNo) (r : StreamNo) (by : Way) → ¬ IsAssign s x y r by
-  pub no_want : (x : ExchangeNo) (y : ConnNo) (t : Target) → ¬ IsWant s x y t
+  pub no_assign : (f : ExchangeNo) (d : ConnNo) (r : StreamNo) (by : Way) → ¬ IsAssign s f d r by
+  pub no_want : (f : ExchangeNo) (d : ConnNo) (t : Target) → ¬ IsWant s f d t
   pub full : IsTrue (is_total_full s)
-  pub none_closing : ¬ IsTrue (list_any (λ x. is_closing x.phase) s.connections)
+  pub none_closing : ¬ IsTrue (list_any (λ d. is_closing d.phase) s.connections)
   pub held_back : (number : ℕ) × (e : Exchange) × (numbered number s.exchanges ≡ Some e) × IsTrue (is_held_back s number e)
   pub least : IsLeast is_idle idle_since_of s.connections c.0
 

@@ -7,12 +7,13 @@ use crate::calls::{
     after_cancel, after_dial, after_network, after_orders, after_preconnect, after_reprioritise,
     after_resolved, after_shut, after_submit, group_parts_for,
 };
+use crate::lost::after_closed;
 use crate::pools_entries::{after_assign, after_evict, after_expire, after_lapse, after_want};
-use crate::workers_entries::{after_closed, after_report, note_sent};
+use crate::workers_entries::{after_report, note_sent};
+use model_authority::keys::build_group;
+use model_values::{AbstractPool, Act, OrderMarks, PreconnectReply};
 use net_base::{CallerNo, ConnNo, NoMem, Origin};
 use partition_keys::PartitionKey;
-use model_values::{AbstractPool, Act, OrderMarks, PreconnectReply};
-use model_authority::keys::build_group;
 use std::alloc::Global;
 
 /// A call to open connections of this origin ahead.
@@ -82,16 +83,16 @@ pub fn after_act(alloc: Global, s: &mut AbstractPool, who: CallerNo, act: &Act) 
         Act::Orders { conn, sent, orders } => take_orders(alloc, s, *conn, *sent, orders),
         Act::Reported { conn, sent, report } => {
             note_sent(s, *conn, *sent);
-            after_report(alloc, s, *conn, act, report)
+            after_report(alloc, s, *conn, report)
         }
         Act::Closed {
             conn,
             sent,
             cause,
-            heard: _,
+            heard,
         } => {
             note_sent(s, *conn, *sent);
-            after_closed(alloc, s, *conn, *cause, act)
+            after_closed(alloc, s, *conn, *cause, heard.as_slice())
         }
         Act::Expire(no) => after_expire(alloc, s, *no),
         Act::Lapse(no) => {

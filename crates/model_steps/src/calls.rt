@@ -5,10 +5,9 @@ ghost use Rattle.model_changes.specs.Connections as connections;
 ghost use Rattle.model_authority.specs.Ways as ways;
 
 use crate::exchanges::{close_exchanges, end_numbered, hand_all, new_exchange, set_urgency};
-use net_base::{
-    Addresses, CallerNo, ConnNo, ExchangeNo, Moment, NoMem, Octets, Origin, PlainValue,
-};
-use partition_keys::{GroupKey, PartitionKey};
+use model_authority::keys::{GroupParts, build_group};
+use model_authority::lists::numbered;
+use model_authority::ways::{is_host_row_of, target_parts_for};
 use model_changes::alternatives::persistent_alternatives;
 use model_changes::connections::new_connection;
 use model_changes::connections_at::{
@@ -18,9 +17,10 @@ use model_values::{
     AbstractPool, CancelReply, ChangeReply, Connection, Exchange, HostRow, OrderMarks, Outcome,
     PreconnectReply, ResolvedReply, Rows, ShutReply, Status, Submission, SubmitReply,
 };
-use model_authority::keys::{GroupParts, build_group};
-use model_authority::lists::numbered;
-use model_authority::ways::{is_host_row_of, target_parts_for};
+use net_base::{
+    Addresses, CallerNo, ConnNo, ExchangeNo, Moment, NoMem, Octets, Origin, PlainValue,
+};
+use partition_keys::{GroupKey, PartitionKey};
 use std::alloc::Global;
 
 /// Counts the entry's moment and the entry.

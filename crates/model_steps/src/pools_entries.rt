@@ -4,12 +4,12 @@ ghost use Rattle.model_steps.specs.After as spec;
 
 use crate::calls::release;
 use crate::exchanges::{end_numbered, lease_numbered, time_out_numbered};
-use net_base::{ConnNo, ExchangeNo, Moment, NoMem, PlainValue, StreamNo, Target};
-use partition_keys::GroupKey;
+use model_authority::lists::numbered;
 use model_changes::connections::new_connection;
 use model_changes::connections_at::{closing_at, with_start_at};
 use model_values::{AbstractPool, Connection, Exchange, Outcome, Way};
-use model_authority::lists::numbered;
+use net_base::{ConnNo, ExchangeNo, Moment, NoMem, PlainValue, StreamNo, Target};
+use partition_keys::GroupKey;
 use std::alloc::Global;
 
 /// The exchange's deadline is reached.

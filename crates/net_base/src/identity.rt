@@ -50,7 +50,7 @@ pub enum IdentityFault {
     NoMem,
     /// There are so many names, and more than 100.
     TooManyNames(u64),
-    /// The name at this place, counted from 0, is no host: without a leading `*.` it is empty or is `-`, or it has an
+    /// The name at this place, counted from 0, is none: without a leading `*.` it is empty or is `-`, or it has an
     /// octet other than ASCII letters, digits, `-`, `.`, `_`, `:`, `[` and `]`.
     BadName(u64),
 }
@@ -69,7 +69,8 @@ impl From<NoMem> for IdentityFault {
 impl Identity {
     /// The identity with these names, which are kept in lower case. A leading `*.` is a wildcard (RFC 9525, section 6.3).
     ///
-    /// `TooManyNames` where there are more than 100, `BadName` at the first name that is no host, in this order.
+    /// `TooManyNames` where there are more than 100, `BadName` at the first that may be no name, in this order. That a name
+    /// is a host isn't asked.
     pub fn build(
         alloc: Global,
         names: Names,

@@ -2,14 +2,12 @@
 use Rattle.std.proofs.Common.{◌≡◌, ℕ, ◌<◌, Bool, true, false, List, [], ◌∷◌, ◌++◌, length, if◌then◌else◌, ◌==◌, refl, ap, sym, ◌∙◌, subst, arith}
 use Rattle.std.proofs.lemmas.Bool.Decides.{nat_tests}
 use Rattle.std.proofs.lemmas.Grind.{common_steps}
+use Rattle.plain_values.specs.Fronts.{IsFrontOf}
 use Rattle.net_base.specs.declared.peer.Peer.{Peer}
 use Rattle.origin_core.specs.declared.scripted_origin.ScriptedOrigin.{ScriptedOrigin}
-use Rattle.origin_core.specs.ScriptedOrigin.{Puts, IsOriginAt, IsFrontOf}
+use Rattle.origin_core.specs.ScriptedOrigin.{Puts, IsOriginAt}
 use Rattle.origin_core.specs.InnerLinks.{GivesPut}
 use Rattle.origin_core.proofs.Origins.{origin_longer}
-
-pub front_none : (xs ys : List ℕ) → xs ≡ [] → IsFrontOf xs ys
-front_none xs ys e = rw e (grind (arith, common_steps))
 
 -- what was written grew, or stays
 pub origin_after : (b : Bool) (peer : Peer) (old new piece : List ℕ) (origin : ScriptedOrigin)

@@ -4,14 +4,13 @@ use Rattle.std.proofs.lemmas.Grind.{flat_map-append, common_steps}
 use Rattle.std.proofs.lemmas.List.{take-append-drop, take-append-le}
 use Rattle.std.proofs.lemmas.List.Elements.{All-nil, All-push}
 use Rattle.std.proofs.Math.Logic.{∥∥₁_map}
-use Rattle.std.proofs.Math.Seq.{take-append_seam}
+use Rattle.plain_values.proofs.Fronts.{take_more}
 use Rattle.net_base.specs.declared.peer.Peer.{Peer}
 use Rattle.origin_core.specs.declared.scripted_origin.ScriptedOrigin.{ScriptedOrigin}
 use Rattle.origin_core.specs.declared.scripted_request.Asked.{Asked}
 use Rattle.origin_core.specs.ScriptedRequests.{IsWhole}
 use Rattle.origin_core.specs.ScriptedAnswers.{text_for}
-use Rattle.origin_core.specs.ScriptedOrigin.{Arrived, AnswersTo, AreAnswered, StopsAt, Puts, IsOriginAt, IsFrontOf, put_of}
-use Rattle.origin_core.proofs.Wholes.{take_more}
+use Rattle.origin_core.specs.ScriptedOrigin.{Arrived, AnswersTo, AreAnswered, StopsAt, Puts, IsOriginAt, put_of}
 
 answered_none : (peer : Peer) → AreAnswered peer [] []
 answered_none peer = ∣ ([], record { whole = All-nil (λ (e : Arrived). IsWhole e.octets e.asked); octets_are = refl; put_is = refl }) ∣₁
@@ -63,32 +62,3 @@ pub puts_from : (peer : Peer) (input : List ℕ) (origin : ScriptedOrigin) (over
     → StopsAt (drop origin.answered input) over → Puts peer input (put_of origin) over
 puts_from peer input origin over o stops =
     (take origin.answered input, drop origin.answered input, sym (take-append-drop origin.answered input), o.answered, stops)
-
-pub front_same : (xs : List ℕ) → IsFrontOf xs xs
-front_same xs = grind (arith, common_steps)
-
-pub front_more : (xs ys : List ℕ) → IsFrontOf xs (xs ++ ys)
-front_more xs ys = take-append_seam xs ys
-
-front_length : (xs ys : List ℕ) → IsFrontOf xs ys → length xs ≤ length ys
-front_length xs ys f = omega (arith, length-take (length xs) ys, ap length f)
-
-take_take : (n m : ℕ) (xs : List ℕ) → n ≤ m → take n (take m xs) ≡ take n xs
-take_take n m xs le = grind (arith, common_steps)
-
-pub front_on : (xs ys zs : List ℕ) → IsFrontOf xs ys → IsFrontOf ys zs → IsFrontOf xs zs
-front_on xs ys zs f g =
-    sym (take_take (length xs) (length ys) zs (front_length xs ys f)) ∙ ap (take (length xs)) g ∙ f
-
-take_length : (n : ℕ) (xs : List ℕ) → take (length (take n xs)) xs ≡ take n xs
-take_length n [] = grind (arith, common_steps)
-take_length zero (x ∷ xs) = refl
-take_length (suc n) (x ∷ xs) = grind (arith, common_steps, take_length n xs)
-
-pub take_front : (xs ys : List ℕ) (n : ℕ) → IsFrontOf xs ys → IsFrontOf (xs ++ take n (drop (length xs) ys)) ys
-take_front xs ys n f =
-    let all : take (length xs + n) ys ≡ xs ++ take n (drop (length xs) ys) = take_more ys (length xs) n ∙ ap (λ s. s ++ take n (drop (length xs) ys)) f in
-    rw (← all) (take_length (length xs + n) ys)
-
-pub front_whole : (xs ys : List ℕ) → IsFrontOf xs ys → length ys ≤ length xs → ys ≡ xs
-front_whole xs ys f le = grind (arith, common_steps, f)

@@ -1,15 +1,11 @@
 -- Whole requests at the front of octets.
-use Rattle.std.proofs.Common.{◌≡◌, ℕ, zero, suc, ◌+◌, ◌<◌, ◌≤◌, List, [], ◌∷◌, ◌++◌, length, take, drop, refl, ap, sym, subst, inl, inr, arith, length-append, length-take, length-drop, suc-add, zero-add}
+use Rattle.std.proofs.Common.{◌≡◌, ℕ, ◌+◌, ◌<◌, ◌≤◌, List, [], ◌∷◌, ◌++◌, length, take, drop, sym, subst, inl, inr, arith, length-append, length-take, length-drop}
 use Rattle.std.proofs.lemmas.Grind.{flat_map-append, common_steps}
+use Rattle.plain_values.proofs.Fronts.{take_more}
 use Rattle.h1_frames.specs.Units.{IsHeadUnit, BeginsWithUnit, lines_text}
 use Rattle.origin_core.specs.declared.scripted_request.Asked.{Asked}
 use Rattle.origin_core.specs.declared.scripted_request.NextRequest.TheVariants.{Whole, Unfinished, Unreadable}
 use Rattle.origin_core.specs.ScriptedRequests.{Asks, AsksNothing, HasBodyOf, HasNoBodySize, IsNext}
-
-pub take_more : {A : Type 0} (s : List A) (i n : ℕ) → take (i + n) s ≡ take i s ++ take n (drop i s)
-take_more [] i n = grind (arith, common_steps)
-take_more (x ∷ xs) zero n = rw zero-add refl
-take_more (x ∷ xs) (suc i) n = rw suc-add (ap (λ l. x ∷ l) (take_more xs i n))
 
 -- a unit isn't empty
 last_line : (lines : List (List ℕ)) (last : List ℕ) → 0 < length (lines_text (lines ++ last ∷ []))

@@ -2,6 +2,7 @@
 -- were written to it.
 use Rattle.std.specs.Prelude.{◌≡◌, ◌⊎◌, ◌<◌, ℕ, Bool, true, false, List}
 use Rattle.std.proofs.Math.Nat.{le_of_lt}
+use Rattle.plain_values.specs.Fronts.{IsFrontOf}
 use Rattle.net_base.specs.declared.peer.Peer.{Peer}
 use Rattle.edge_traits.specs.declared.link.LinkRead.{LinkRead}
 use Rattle.edge_traits.specs.declared.link.LinkRead.TheVariants as reading
@@ -9,7 +10,7 @@ use Rattle.edge_traits.specs.Counts.{Counts}
 use Rattle.edge_traits.specs.Counted.{one_read_quiet, one_end}
 use Rattle.edge_traits.specs.Links.{LinkView, IsWithinAllowance}
 use Rattle.edge_traits.specs.BookLinks.{counts_of, out_link_view}
-use Rattle.origin_core.specs.ScriptedOrigin.{Puts, IsFrontOf}
+use Rattle.origin_core.specs.ScriptedOrigin.{Puts}
 use Rattle.origin_core.specs.declared.inner_link.InnerLink.{InnerLink}
 
 abbrev pub link_view : InnerLink → LinkView

@@ -49,10 +49,6 @@ pub record IsOriginAt (peer : Peer) (input : List ℕ) (origin : ScriptedOrigin)
   pub within : origin.answered ≤ length input
   pub answered : AreAnswered peer (take origin.answered input) origin.put
 
--- the octets begin so
-abbrev pub IsFrontOf : List ℕ → List ℕ → Type 0
-IsFrontOf front octets = take (length front) octets ≡ front
-
 -- what the next request did
 abbrev pub StepIs : List ℕ → ScriptedOrigin → ScriptedOrigin → Step → Type 0
 StepIs input before after Answered = before.answered < after.answered

@@ -1,6 +1,7 @@
 // A link to a scripted origin in memory.
 ghost use Rattle.std.specs.Prelude.{◌≡◌, ◌≤◌, ◌<◌, ◌++◌, [], length};
-ghost use Rattle.origin_core.specs.ScriptedOrigin.{IsOriginAt, IsFrontOf, put_of};
+ghost use Rattle.plain_values.specs.Fronts.{IsFrontOf};
+ghost use Rattle.origin_core.specs.ScriptedOrigin.{IsOriginAt, put_of};
 
 use crate::scripted_origin::ScriptedOrigin;
 use edge_traits::{Link, LinkRead, LinkWrite, NO_TALLY, OutLink, Tally, put_front};
@@ -61,7 +62,7 @@ impl Link for InnerLink {
 
     /// Gives the next octets of what the origin puts for what was written. It never fails, and counts each Quiet and each
     /// End once.
-    #[tactic(auto, using(crate::proofs::Origins::front_on))]
+    #[tactic(auto, using(plain_values::proofs::Fronts::front_on))]
     fn read(&mut self, alloc: Global, buf: &mut [u8]) -> LinkRead
         requires { 0 < length buf.old }
         ensures answer { LinkReads (link_view self.old) (length buf.old) buf.new result (link_view self.new) }

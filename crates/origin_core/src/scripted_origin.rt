@@ -1,7 +1,8 @@
 // A scripted HTTP/1.1 origin.
 ghost use Rattle.std.specs.Prelude.{◌≡◌, ◌≤◌, ℕ, List, [], length, drop, IfOk};
+ghost use Rattle.plain_values.specs.Fronts.{IsFrontOf};
 ghost use Rattle.net_base.specs.declared.peer.Peer.{Peer};
-ghost use Rattle.origin_core.specs.ScriptedOrigin.{Puts, IsOriginAt, IsFrontOf, StepIs, PutsAll};
+ghost use Rattle.origin_core.specs.ScriptedOrigin.{Puts, IsOriginAt, StepIs, PutsAll};
 
 use crate::scripted_answer::answer_to;
 use crate::scripted_request::{NextRequest, next_request};
@@ -67,7 +68,7 @@ impl ScriptedOrigin {
 
     /// Puts the answers to the whole requests that came, and tells whether it is over. After `NoMem` some of them may
     /// stand already.
-    #[tactic(auto, using(crate::proofs::Origins::front_same, crate::proofs::Origins::front_on, crate::proofs::Origins::puts_from))]
+    #[tactic(auto, using(plain_values::proofs::Fronts::front_same, plain_values::proofs::Fronts::front_on, crate::proofs::Origins::puts_from))]
     pub(crate) fn answer(&mut self, alloc: Global, peer: &Peer, input: &[u8]) -> Result<bool, NoMem>
         requires { IsOriginAt peer.now input.now self.old }
         ensures puts { IfOk result (Puts peer.now input.now (put_of self.new)) }
@@ -84,7 +85,7 @@ impl ScriptedOrigin {
     }
 
     /// Puts the answer to the next request, where it is whole.
-    #[tactic(auto, using(crate::proofs::Origins::front_same, crate::proofs::Origins::front_more))]
+    #[tactic(auto, using(plain_values::proofs::Fronts::front_same, plain_values::proofs::Fronts::front_more))]
     fn step(&mut self, alloc: Global, peer: &Peer, input: &[u8]) -> Result<Step, NoMem>
         requires { IsOriginAt peer.now input.now self.old }
         ensures step { IfOk result (StepIs input.now self.old self.new) }

@@ -84,17 +84,19 @@ impl PlainValue for AltUpdate {
     }
 }
 
-/// What an answer at `/.well-known/http-opportunistic` proves (RFC 8164, section 2.3).
+/// The answer to a probe, which asks an alternative for `/.well-known/http-opportunistic` (RFC 8164, section 2.3): what
+/// it proves.
 #[derive(Clone, Copy, Debug, PartialEq, Eq)]
 pub enum Proof {
-    /// The exchange was no probe.
+    /// Nothing, since the exchange was no probe.
     NotAsked,
+    /// Nothing, since a condition failed.
     NotValid(Why),
     /// The origin's `http` exchanges may use the alternative up to this moment.
     Until(Moment),
 }
 
-/// The first condition that failed.
+/// The answer to a probe proves nothing (RFC 8164, section 2.3): the first condition that failed.
 #[derive(Clone, Copy, Debug, PartialEq, Eq)]
 pub enum Why {
     /// The status isn't 200.

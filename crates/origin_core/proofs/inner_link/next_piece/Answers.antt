@@ -1,4 +1,4 @@
-use Rattle.origin_core.proofs.Origins.{take_front}
+use Rattle.plain_values.proofs.Fronts.{take_front}
 use Rattle.origin_core.proofs.inner_link.next_piece.Goals as goal
 
 pub returns-clause-next : goal.returns-clause-next

@@ -1,5 +1,5 @@
 use Rattle.std.proofs.Common.{arith, lit<}
-use Rattle.origin_core.proofs.InnerLinks.{front_none}
+use Rattle.plain_values.proofs.Fronts.{front_none}
 use Rattle.origin_core.specs.ScriptedOrigin.{put_of}
 use Rattle.origin_core.proofs.inner_link.InnerLink.dialed.Goals as goal
 

@@ -1,6 +1,7 @@
 use Rattle.std.proofs.Common.{◌≡◌, ◌≤◌, ◌++◌, ◌∙◌, sym, inl, arith, Bool, true, false, subst, List, ℕ, length, length-append}
-use Rattle.origin_core.specs.ScriptedOrigin.{put_of, Puts, IsFrontOf}
-use Rattle.origin_core.proofs.Origins.{front_on}
+use Rattle.plain_values.specs.Fronts.{IsFrontOf}
+use Rattle.plain_values.proofs.Fronts.{front_on}
+use Rattle.origin_core.specs.ScriptedOrigin.{put_of, Puts}
 use Rattle.origin_core.proofs.InnerLinks.{all_given, gives_put, given_more, some_octets}
 use Rattle.origin_core.proofs.inner_link.InnerLinkLink.read.Goals as goal
 

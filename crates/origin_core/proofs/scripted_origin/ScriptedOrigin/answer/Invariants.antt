@@ -1,5 +1,6 @@
 use Rattle.std.proofs.Common.{◌-◌, length}
-use Rattle.origin_core.specs.ScriptedOrigin.{IsOriginAt, IsFrontOf, put_of}
+use Rattle.plain_values.specs.Fronts.{IsFrontOf}
+use Rattle.origin_core.specs.ScriptedOrigin.{IsOriginAt, put_of}
 use Rattle.origin_core.proofs.scripted_origin.ScriptedOrigin.answer.Given as goal
 
 abbrev pub invariant-loop : goal.invariant-loop

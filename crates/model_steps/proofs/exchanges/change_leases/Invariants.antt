@@ -1,6 +1,0 @@
-use Rattle.std.proofs.Common.{◌≡◌, ◌++◌, take, drop, map}
-use Rattle.model_steps.specs.Exchanges as spec
-use Rattle.model_steps.proofs.exchanges.change_leases.Given as goal
-
-abbrev pub invariant-loop-e : goal.invariant-loop-e
-invariant-loop-e l = l.list ≡ map (spec.lease_after l.act) (take l.e-index l.initial.list) ++ drop l.e-index l.initial.list
