@@ -7,6 +7,9 @@ import subprocess
 
 TOP = os.path.dirname(os.path.dirname(os.path.abspath(__file__)))
 
+# the seconds that a check may take: one that hangs is given up
+LIMIT = 3600
+
 
 def libraries():
     """Of each crate the libraries that it uses, by crates.txt, whose order is from the lowest crate up."""
@@ -80,7 +83,11 @@ class Copy:
     def check(self, only):
         """The status and the lines of a check of these functions or modules."""
         words = self.words + [word for path in only for word in ("--only", path)]
-        ran = subprocess.run(words, cwd=self.folder, stdout=subprocess.PIPE, stderr=subprocess.STDOUT, text=True, errors="replace")
+        said = {"stdout": subprocess.PIPE, "stderr": subprocess.STDOUT, "text": True, "errors": "replace"}
+        try:
+            ran = subprocess.run(words, cwd=self.folder, timeout=LIMIT, **said)
+        except subprocess.TimeoutExpired:
+            return 3, [f"the check took more than {LIMIT} seconds"]
         return ran.returncode, ran.stdout.rstrip("\n").split("\n")
 
     def tried(self, edit, folder, only):

@@ -59,10 +59,10 @@ fn a_link_gives_what_the_origin_puts(rt: HostRuntime) -> Result<(), Fail> {
     let mut rest = [0; 33];
     assert!(rt; matches!(link.read(alloc, &mut rest), LinkRead::Got(32)));
     assert_eq!(rt; rest, *b"1 200 \r\ncontent-length: 3\r\n\r\nxxx\0");
-    let found = scripted_puts(alloc, &peer(alloc)?, text)?;
-    assert_eq!(rt; found.put.len(), 39);
     assert!(rt; matches!(link.read(alloc, &mut rest), LinkRead::End));
     dialer.retire(ConnNo(2), link);
+    let found = scripted_puts(alloc, &peer(alloc)?, text)?;
+    assert_eq!(rt; found.put.len(), 39);
     let elsewhere = target(alloc, 81)?;
     assert!(rt; matches!(dialer.dial(alloc, ConnNo(3), &elsewhere), Dialed::Failed));
     Ok(())
