@@ -1,5 +1,5 @@
 -- What a command may say of its input, and what shows it.
-use Rattle.std.specs.Prelude.{◌≡◌, ◌≢◌, ◌⊎◌, ◌≤◌, ℕ, List, [], ◌∷◌, ◌++◌, length, sum_by, codes, Option, Some, None, Result, Ok, Err}
+use Rattle.std.specs.Prelude.{◌≡◌, ◌≢◌, ◌⊎◌, ◌+◌, ◌≤◌, ℕ, List, [], ◌∷◌, ◌++◌, length, sum_by, codes, Option, Some, None, Result, Ok, Err}
 use Rattle.plain_values.specs.declared.memory.NoMem.{NoMem}
 use Rattle.net_base.specs.declared.target.Proto.TheVariants.{H1, H2}
 use Rattle.net_base.specs.declared.identity.Identity.{Identity}
@@ -10,6 +10,7 @@ use Rattle.edge_traits.specs.Links.{Place}
 use Rattle.edge_traits.specs.Dialers.{DialerView, LogLine}
 use Rattle.h1_frames.specs.RequestText.{request_text}
 use Rattle.small_form.specs.declared.form.SmallForm.{SmallForm}
+use Rattle.pool_run.specs.declared.streams.TheConstants.{MOST_INPUT}
 use Rattle.pool_run.specs.declared.ending.Command.{Command}
 use Rattle.pool_run.specs.declared.ending.Command.TheVariants as commands
 use Rattle.pool_run.specs.declared.report.Unbuilt.{Unbuilt}
@@ -48,7 +49,7 @@ IsOutside left = (bytes : List ℕ) × (s : Scenario) × IsInput left bytes × I
 -- can't be run yet
 abbrev pub IsRefused : Command → Option (List ℕ) → ScenarioFault → Type 0
 IsRefused command left fault =
-    (HasTooMany left × (fault ≡ TooMany (codes "/") 67108865))
+    (HasTooMany left × (fault ≡ TooMany (codes "/") (MOST_INPUT + 1)))
     ⊎ (((command ≢ commands.Replay) × (bytes : List ℕ) × IsInput left bytes × IsNoScenario bytes fault)
     ⊎ ((command ≡ commands.Serial) × IsOutside left × (fault ≡ Unsupported (codes "/"))))
 
