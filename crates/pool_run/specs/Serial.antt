@@ -103,14 +103,15 @@ pub record CameUp (before after : DialerView) (form : SmallForm) (identity : Ide
 abbrev pub QuietDials : ℕ → DialerView → DialerView → Type 0
 QuietDials k before after = RoseBy k before.counts.read_quiets after.counts.read_quiets
 
--- the request's text is out, no whole answer came and reads were quiet 10000 times; or writes were
+-- the request's text is out, no whole answer came and reads were quiet 10000 times; or writes were. The count doesn't say when they
+-- were, nor that one came behind the other
 abbrev pub IsQuiet : DialerView → DialerView → List ℕ → List ℕ → List ℕ → Type 0
 IsQuiet before after text put got =
     ((put ≡ text) × Stands got standing.More × QuietDials 10000 before after)
     ⊎ RoseBy 10000 before.counts.write_quiets after.counts.write_quiets
 
--- the connection came up to a peer that speaks HTTP/1.1; a front of the request's text was written, and what came may
--- still have become an answer
+-- the connection came up to a peer that speaks HTTP/1.1; a front of the request's text was written, and what came is nothing, a
+-- head that isn't whole, a head of the first form with less than its body, or a whole answer
 abbrev pub WasOpen : DialerView → DialerView → SmallForm → Identity → List ℕ → List ℕ → Type 0
 WasOpen before after form identity put got = CameUp before after form identity put got × (identity.proto ≡ H1) × IsOpen got
 
