@@ -3,7 +3,7 @@ use Rattle.std.proofs.Common.{◌≡◌, ◌≢◌, ◌+◌, ℕ, List, [], ◌�
 use Rattle.std.proofs.lemmas.List.Elements.{All-head, All-tail}
 use Rattle.std.proofs.Math.Seq.{take-append_seam}
 use Rattle.std.specs.Prelude.{codes}
-use Rattle.journal_text.specs.Journals.{IsInLine}
+use Rattle.plain_values.specs.Lines.{IsInLine}
 use Rattle.journal_replay.specs.Pairs.{separator, EndsLine, PartsAt, HasNoSeparator, IsPair}
 
 abbrev IsOther : ℕ → Type 0

@@ -1,25 +1,8 @@
 // Where a pair parts.
-ghost use Rattle.std.specs.Prelude.{◌≡◌, ◌++◌, ◌∷◌, MatchOption};
-ghost use Rattle.journal_text.specs.Journals.{IsInLine};
+ghost use Rattle.std.specs.Prelude.{MatchOption};
 ghost use Rattle.journal_replay.specs.Pairs.{HasNoSeparator, IsPair};
 
-/// A line without its LF, and what stands behind it.
-#[derive(Drop)]
-struct Cut<'t> {
-    line: &'t [u8],
-    behind: &'t [u8],
-}
-
-/// The first line, where there is one.
-fn first_line<'t>(text: &'t [u8]) -> Option<Cut<'t>>
-    ensures { MatchOption result (IsInLine text.now) (λ cut. (text.now ≡ cut.line.now ++ 10 ∷ cut.behind.now) × IsInLine cut.line.now) }
-{
-    let place = text.iter().position(|b| *b == b'\n')?;
-    Some(Cut {
-        line: &text[..place],
-        behind: &text[place + 1..],
-    })
-}
+use plain_values::first_line;
 
 /// What stands before the first line that is the separator, and what stands behind it.
 #[derive(Drop)]

@@ -1,10 +1,11 @@
 // What is counted in a history and in the state that it leaves.
-ghost use Rattle.std.specs.Prelude.{◌≡◌, ◌+◌, IfOk};
+ghost use Rattle.std.specs.Prelude.{◌≡◌, IfOk};
 ghost use Rattle.journal_summary.specs.Summary as spec;
 
 use model_authority::has_ended;
 use model_values::{Act, Entry, Exchange, Outcome, PreconnectReply, Status, SubmitReply};
 use net_base::NoMem;
+use plain_values::plus;
 
 /// Whether the act is a submission that was accepted.
 fn is_accepted(act: &Act) -> bool
@@ -43,16 +44,6 @@ fn made_by(act: &Act) -> u64
             ..
         } => u64::from(*k),
         _ => 0,
-    }
-}
-
-/// The sum, or `NoMem` where it passes 2^64 - 1.
-fn plus(a: u64, b: u64) -> Result<u64, NoMem>
-    ensures { IfOk result (λ n. n ≡ a + b) }
-{
-    match a.checked_add(b) {
-        Some(n) => Ok(n),
-        None => Err(NoMem),
     }
 }
 

@@ -5,6 +5,7 @@ use Rattle.std.specs.Fmt.{decimal}
 use Rattle.std.proofs.lemmas.List.{append_cancel_left, append_cancel_right}
 use Rattle.std.proofs.lemmas.List.Elements.{All-append, All-cons, All-head, All-nil, All-tail, All-weaker}
 use Rattle.std.proofs.lemmas.Grind.{flat_map-append}
+use Rattle.plain_values.specs.Lines.{IsInLine}
 use Rattle.model_values.specs.declared.entry.Entry.{Entry}
 use Rattle.journal_words.specs.Words.{spaced_words}
 use Rattle.journal_words.proofs.Above.{decimal_above}
@@ -14,7 +15,7 @@ use Rattle.journal_lines.specs.Ranges.{EntryFits}
 use Rattle.journal_lines.specs.Writable.{IsWritable}
 use Rattle.journal_lines.proofs.EntryBack.{line_in_line}
 use Rattle.journal_text.specs.Lines.{first_line, end_line, journal_text}
-use Rattle.journal_text.specs.Journals.{IsInLine, IsLineOf, IsLineOfNone, IsJournal, RefusesJournal, lines_text}
+use Rattle.journal_text.specs.Journals.{IsLineOf, IsLineOfNone, IsJournal, RefusesJournal, lines_text}
 use Rattle.journal_text.specs.declared.faults.JournalFault.{JournalFault}
 use Rattle.journal_text.specs.declared.faults.JournalFault.TheVariants.{NoMem, BadLine, Truncated}
 use Rattle.journal_text.proofs.EndApart.{entry_no_end}

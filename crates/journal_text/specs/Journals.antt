@@ -3,6 +3,7 @@
 -- from 1.
 use Rattle.std.specs.Prelude.{◌≡◌, ◌≢◌, ◌⊎◌, ⊤, ℕ, ◌+◌, List, [], ◌∷◌, ◌++◌, length, All}
 use Rattle.std.specs.List.{flat_map}
+use Rattle.plain_values.specs.Lines.{IsInLine}
 use Rattle.model_values.specs.declared.entry.Entry.{Entry}
 use Rattle.journal_lines.specs.Lines.{entry_line}
 use Rattle.journal_lines.specs.Ranges.{EntryFits}
@@ -10,10 +11,6 @@ use Rattle.journal_lines.specs.Writable.{IsWritable}
 use Rattle.journal_text.specs.Lines.{first_line, end_line, journal_text}
 use Rattle.journal_text.specs.declared.faults.JournalFault.{JournalFault}
 use Rattle.journal_text.specs.declared.faults.JournalFault.TheVariants.{NoMem, BadLine, Truncated}
-
--- no end of a line stands in it
-abbrev pub IsInLine : List ℕ → Type 0
-IsInLine text = All (λ b. b ≢ 10) text
 
 -- the line of this entry, which can be read back, without its LF
 abbrev pub IsLineOf : List ℕ → Entry → Type 0

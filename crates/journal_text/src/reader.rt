@@ -1,9 +1,9 @@
 // Lines and journals read back.
-ghost use Rattle.std.specs.Prelude.{ℕ, ◌≡◌, ◌⊎◌, ◌+◌, ◌<◌, ◌^◌, [], ◌∷◌, ◌++◌, List, All, length, IsTrue, IfOk, IfErr, MatchOption, MatchResult, ◌↔◌, codes};
+ghost use Rattle.std.specs.Prelude.{ℕ, ◌≡◌, ◌⊎◌, ◌+◌, ◌<◌, ◌^◌, [], ◌∷◌, ◌++◌, List, All, length, IsTrue, IfOk, IfErr, MatchResult, ◌↔◌, codes};
 ghost use Rattle.journal_lines.specs.Lines.{entry_line};
 ghost use Rattle.journal_lines.specs.Ranges.{EntryFits};
 ghost use Rattle.journal_lines.specs.Writable.{IsWritable};
-ghost use Rattle.journal_text.specs.Journals.{IsInLine, IsLineOf, IsLineOfNone, IsJournal, RefusesJournal};
+ghost use Rattle.journal_text.specs.Journals.{IsLineOf, IsLineOfNone, IsJournal, RefusesJournal};
 ghost use Rattle.journal_text.specs.Lines as lines;
 
 use crate::faults::JournalFault;
@@ -13,25 +13,8 @@ use journal_lines::{read_words, write_entry};
 use journal_words::WordFault;
 use model_values::{Entry, History};
 use net_base::{NoMem, Octets, PlainValue};
+use plain_values::first_line;
 use std::alloc::Global;
-
-/// A line without its LF, and what stands behind it.
-#[derive(Drop)]
-struct Cut<'t> {
-    line: &'t [u8],
-    behind: &'t [u8],
-}
-
-/// The first line, where there is one.
-fn first_line<'t>(text: &'t [u8]) -> Option<Cut<'t>>
-    ensures { MatchOption result (IsInLine text.now) (λ cut. (text.now ≡ cut.line.now ++ 10 ∷ cut.behind.now) × IsInLine cut.line.now) }
-{
-    let place = text.iter().position(|b| *b == b'\n')?;
-    Some(Cut {
-        line: &text[..place],
-        behind: &text[place + 1..],
-    })
-}
 
 /// Whether the line, which stands here without its LF, is this text.
 fn is_whole(alloc: Global, line: &[u8], text: &Octets) -> Result<bool, NoMem>

@@ -1,5 +1,5 @@
 -- How a command ended, and what the top call says of it.
-use Rattle.std.proofs.Common.{◌≡◌, ◌≢◌, ℕ, ◌<◌, lit<, List, [], ◌∷◌, map, codes, length, slice_index_or, slice_set, String, Global, Option, None, Some, Result, Ok, Err, IfOk, inl, inr, refl, sym, ap, subst, ◌∙◌, arith}
+use Rattle.std.proofs.Common.{◌≡◌, ◌≢◌, Bool, true, false, ◌==◌, ℕ, ◌+◌, ◌<◌, lit<, List, [], ◌∷◌, map, codes, length, slice_index_or, slice_set, String, Global, Option, None, Some, Result, Ok, Err, IfOk, inl, inr, refl, sym, ap, subst, ◌∙◌, arith}
 use Rattle.plain_values.specs.declared.memory.NoMem.{NoMem}
 use Rattle.edge_traits.specs.Told.{Grew}
 use Rattle.edge_traits.specs.Sources.{SourceView}
@@ -17,6 +17,7 @@ use Rattle.pool_run.specs.declared.ending.Command.{Command}
 use Rattle.pool_run.specs.declared.ending.Command.TheVariants as commands
 use Rattle.pool_run.specs.declared.ending.Ending.{Ending}
 use Rattle.pool_run.specs.declared.ending.Ending.TheVariants as ending
+use Rattle.pool_run.specs.declared.streams.TheConstants.{MOST_INPUT}
 use Rattle.pool_run.specs.declared.streams.Input.{Input}
 use Rattle.pool_run.specs.declared.streams.Input.TheVariants.{TooMany}
 use Rattle.journal_replay.specs.Pairs.{IsVerdict, RefusesPair}
@@ -28,7 +29,7 @@ use Rattle.pool_run.specs.Check.{refusal_line}
 use Rattle.pool_run.specs.Replay.{verdict_report, pair_refusal_line}
 use Rattle.pool_run.specs.Streams.{IsInput, HasTooMany, ReadsInput}
 use Rattle.pool_run.specs.Serial.{Reports, RunsForm}
-use Rattle.pool_run.specs.Desk.{IsCommand, ReportsOn, Ends, DeskDid, status_of, report_status, IsRunStatus}
+use Rattle.pool_run.specs.Desk.{IsCommand, ReportsOn, Ends, DeskDid, AnswersExchange, ChecksScenario, JudgesPair, FindsIllegal, RefusesInput, FailsReading, FailsWriting, LacksMemory, LeavesUnbuilt, status_of, report_status, IsRunStatus}
 
 of_report : (told : Report) → IsRunStatus (report_status told)
 of_report (report.Answered text) = inl refl
@@ -48,140 +49,76 @@ run_status (ending.LacksMemory told) = inr (inr (inr (inr (inr (inl refl)))))
 same_dialers : (v w : DialerView) (others before after : List DialerView) → before ≡ v ∷ others → after ≡ w ∷ others → w ≡ v → after ≡ before
 same_dialers v w others before after b a is = a ∙ ap (λ (x : DialerView). x ∷ others) is ∙ sym b
 
+-- one of two, by a test
+abbrev chosen : Bool → Type 0 → Type 0 → Type 0
+chosen true A B = A
+chosen false A B = B
+
+-- what the top call says of a command that ended with this status
+abbrev DidAt : Command → SourceView → SourceView → SinkView → SinkView → List DialerView → List DialerView → ℕ → Type 0
+DidAt c s r k n before after i =
+    chosen (i == 0) (
+    (c ≡ commands.Serial → AnswersExchange s k before n after)
+    × (c ≡ commands.Check → ChecksScenario s k before n after)
+    × (c ≡ commands.Replay → JudgesPair s k before n after)
+    ) (chosen (i == 1) ((c ≡ commands.Replay) × FindsIllegal s k before n after)
+    (chosen (i == 3) (RefusesInput c s k before n after)
+    (chosen (i == 4) (FailsReading s r k before n after)
+    (chosen (i == 5) (FailsWriting c s k before n after)
+    (chosen (i == 6) (LacksMemory c s k before n after)
+    (chosen (i == 8) ((c ≡ commands.Serial) × LeavesUnbuilt s k before n after) (Unit {0})))))))
+
+did_by : (c : Command) (s r : SourceView) (k n : SinkView) (before after : List DialerView) (status : ℕ)
+    → DidAt c s r k n before after status → DeskDid c status s r k n before after
+did_by c s r k n before after status said =
+    let here : (i : ℕ) → status ≡ i → DidAt c s r k n before after i = λ i is. subst (DidAt c s r k n before after) is said in
+    record {
+      answered = λ is. (here 0 is).0;
+      checked = λ is. (here 0 is).1;
+      judged = λ is. (here 0 is).2;
+      illegal = here 1;
+      refused = here 3;
+      source_failed = here 4;
+      sink_failed = here 5;
+      memory = here 6;
+      unbuilt = here 8;
+    }
+
 told_did : (c : Command) (told : Report) (s r : SourceView) (k n : SinkView) (v w : DialerView) (others before after : List DialerView)
-    → before ≡ v ∷ others → after ≡ w ∷ others → Ends c s k v (ending.Told told) r n w → DeskDid c (report_status told) s r k n before after
-told_did c (report.Answered text) s r k n v w others before after b a e = record {
-  answered = λ i is. (e.0.1.0, text, e.0.1.1, (v, w, others, b, a, e.0.1.2), e.1);
-  checked = λ i is. let serial : c ≡ commands.Serial = e.0.0 in absurd (cc (serial, is));
-  judged = λ i is. let serial : c ≡ commands.Serial = e.0.0 in absurd (cc (serial, is));
-  illegal = λ i. absurd (omega arith);
-  refused = λ i. absurd (omega arith);
-  source_failed = λ i. absurd (omega arith);
-  sink_failed = λ i. absurd (omega arith);
-  memory = λ i. absurd (omega arith);
-  unbuilt = λ i. absurd (omega arith);
-}
-told_did c (report.Checked text) s r k n v w others before after b a e = record {
-  answered = λ i is. let check : c ≡ commands.Check = e.0.0 in absurd (cc (check, is));
-  checked = λ i is. (
-    e.0.1.0,
-    e.0.1.1,
-    same_dialers v w others before after b a e.0.2,
-    subst (λ (t : List ℕ). Grew k.written t n.written) e.0.1.2 e.1,
-  );
-  judged = λ i is. let check : c ≡ commands.Check = e.0.0 in absurd (cc (check, is));
-  illegal = λ i. absurd (omega arith);
-  refused = λ i. absurd (omega arith);
-  source_failed = λ i. absurd (omega arith);
-  sink_failed = λ i. absurd (omega arith);
-  memory = λ i. absurd (omega arith);
-  unbuilt = λ i. absurd (omega arith);
-}
-told_did c (report.Judged text) s r k n v w others before after b a e = record {
-  answered = λ i is. let replay : c ≡ commands.Replay = e.0.0 in absurd (cc (replay, is));
-  checked = λ i is. let replay : c ≡ commands.Replay = e.0.0 in absurd (cc (replay, is));
-  judged = λ i is. (
-    e.0.1.0,
-    e.0.1.1,
-    same_dialers v w others before after b a e.0.2,
-    subst (λ (t : List ℕ). Grew k.written t n.written) e.0.1.2 e.1,
-  );
-  illegal = λ i. absurd (omega arith);
-  refused = λ i. absurd (omega arith);
-  source_failed = λ i. absurd (omega arith);
-  sink_failed = λ i. absurd (omega arith);
-  memory = λ i. absurd (omega arith);
-  unbuilt = λ i. absurd (omega arith);
-}
-told_did c (report.Illegal text) s r k n v w others before after b a e = record {
-  answered = λ i is. absurd (omega arith);
-  checked = λ i is. absurd (omega arith);
-  judged = λ i is. absurd (omega arith);
-  illegal = λ i. (
-    e.0.0,
-    (
-      e.0.1.0,
-      e.0.1.1,
-      same_dialers v w others before after b a e.0.2,
-      subst (λ (t : List ℕ). Grew k.written t n.written) e.0.1.2 e.1,
-    ),
-  );
-  refused = λ i. absurd (omega arith);
-  source_failed = λ i. absurd (omega arith);
-  sink_failed = λ i. absurd (omega arith);
-  memory = λ i. absurd (omega arith);
-  unbuilt = λ i. absurd (omega arith);
-}
-told_did c (report.Refused text) s r k n v w others before after b a e = record {
-  answered = λ i is. absurd (omega arith);
-  checked = λ i is. absurd (omega arith);
-  judged = λ i is. absurd (omega arith);
-  illegal = λ i. absurd (omega arith);
-  refused = λ i. (text, e.0.0, same_dialers v w others before after b a e.0.1, e.1);
-  source_failed = λ i. absurd (omega arith);
-  sink_failed = λ i. absurd (omega arith);
-  memory = λ i. absurd (omega arith);
-  unbuilt = λ i. absurd (omega arith);
-}
-told_did c (report.Unbuilt word) s r k n v w others before after b a e = record {
-  answered = λ i is. absurd (omega arith);
-  checked = λ i is. absurd (omega arith);
-  judged = λ i is. absurd (omega arith);
-  illegal = λ i. absurd (omega arith);
-  refused = λ i. absurd (omega arith);
-  source_failed = λ i. absurd (omega arith);
-  sink_failed = λ i. absurd (omega arith);
-  memory = λ i. absurd (omega arith);
-  unbuilt = λ i. (e.0.0, (e.0.1.0, word, e.0.1.1, (v, w, others, b, a, e.0.1.2), e.1));
-}
+    → before ≡ v ∷ others → after ≡ w ∷ others → Ends c s k v (ending.Told told) r n w → DidAt c s r k n before after (report_status told)
+told_did c (report.Answered text) s r k n v w others before after b a e = (
+  λ is. (e.0.1.0, text, e.0.1.1, (v, w, others, b, a, e.0.1.2), e.1),
+  λ is. let serial : c ≡ commands.Serial = e.0.0 in absurd (cc (serial, is)),
+  λ is. let serial : c ≡ commands.Serial = e.0.0 in absurd (cc (serial, is)),
+)
+told_did c (report.Checked text) s r k n v w others before after b a e = (
+  λ is. let check : c ≡ commands.Check = e.0.0 in absurd (cc (check, is)),
+  λ is. (e.0.1.0, e.0.1.1, same_dialers v w others before after b a e.0.2, subst (λ (t : List ℕ). Grew k.written t n.written) e.0.1.2 e.1),
+  λ is. let check : c ≡ commands.Check = e.0.0 in absurd (cc (check, is)),
+)
+told_did c (report.Judged text) s r k n v w others before after b a e = (
+  λ is. let replay : c ≡ commands.Replay = e.0.0 in absurd (cc (replay, is)),
+  λ is. let replay : c ≡ commands.Replay = e.0.0 in absurd (cc (replay, is)),
+  λ is. (e.0.1.0, e.0.1.1, same_dialers v w others before after b a e.0.2, subst (λ (t : List ℕ). Grew k.written t n.written) e.0.1.2 e.1),
+)
+told_did c (report.Illegal text) s r k n v w others before after b a e =
+    (e.0.0, (e.0.1.0, e.0.1.1, same_dialers v w others before after b a e.0.2, subst (λ (t : List ℕ). Grew k.written t n.written) e.0.1.2 e.1))
+told_did c (report.Refused text) s r k n v w others before after b a e = (text, e.0.0, same_dialers v w others before after b a e.0.1, e.1)
+told_did c (report.Unbuilt word) s r k n v w others before after b a e =
+    (e.0.0, (e.0.1.0, word, e.0.1.1, (v, w, others, b, a, e.0.1.2), e.1))
+
+ended_did : (c : Command) (e : Ending) (s r : SourceView) (k n : SinkView) (v w : DialerView) (others before after : List DialerView)
+    → before ≡ v ∷ others → after ≡ w ∷ others → Ends c s k v e r n w → DidAt c s r k n before after (status_of e)
+ended_did c (ending.Told told) s r k n v w others before after b a e = told_did c told s r k n v w others before after b a e
+ended_did c ending.SourceFailed s r k n v w others before after b a e = (e.0, e.1, same_dialers v w others before after b a e.2)
+ended_did c (ending.SinkFailed told) s r k n v w others before after b a e = (e.1, (told, (v, w, others, b, a, e.0), e.2))
+ended_did c (ending.LacksMemory None) s r k n v w others before after b a e = inl (e.0, (v, w, others, b, a, e.1))
+ended_did c (ending.LacksMemory (Some told)) s r k n v w others before after b a e = inr (told, (v, w, others, b, a, e.0), e.1)
 
 pub desk_did : (c : Command) (e : Ending) (s r : SourceView) (k n : SinkView) (v w : DialerView) (others before after : List DialerView)
     → before ≡ v ∷ others → after ≡ w ∷ others → Ends c s k v e r n w → DeskDid c (status_of e) s r k n before after
-desk_did c (ending.Told told) s r k n v w others before after b a e = told_did c told s r k n v w others before after b a e
-desk_did c ending.SourceFailed s r k n v w others before after b a e = record {
-  answered = λ i is. absurd (omega arith);
-  checked = λ i is. absurd (omega arith);
-  judged = λ i is. absurd (omega arith);
-  illegal = λ i. absurd (omega arith);
-  refused = λ i. absurd (omega arith);
-  source_failed = λ i. (e.0, e.1, same_dialers v w others before after b a e.2);
-  sink_failed = λ i. absurd (omega arith);
-  memory = λ i. absurd (omega arith);
-  unbuilt = λ i. absurd (omega arith);
-}
-desk_did c (ending.SinkFailed told) s r k n v w others before after b a e = record {
-  answered = λ i is. absurd (omega arith);
-  checked = λ i is. absurd (omega arith);
-  judged = λ i is. absurd (omega arith);
-  illegal = λ i. absurd (omega arith);
-  refused = λ i. absurd (omega arith);
-  source_failed = λ i. absurd (omega arith);
-  sink_failed = λ i. (e.1, (told, (v, w, others, b, a, e.0), e.2));
-  memory = λ i. absurd (omega arith);
-  unbuilt = λ i. absurd (omega arith);
-}
-desk_did c (ending.LacksMemory None) s r k n v w others before after b a e = record {
-  answered = λ i is. absurd (omega arith);
-  checked = λ i is. absurd (omega arith);
-  judged = λ i is. absurd (omega arith);
-  illegal = λ i. absurd (omega arith);
-  refused = λ i. absurd (omega arith);
-  source_failed = λ i. absurd (omega arith);
-  sink_failed = λ i. absurd (omega arith);
-  memory = λ i. inl (e.0, (v, w, others, b, a, e.1));
-  unbuilt = λ i. absurd (omega arith);
-}
-desk_did c (ending.LacksMemory (Some told)) s r k n v w others before after b a e = record {
-  answered = λ i is. absurd (omega arith);
-  checked = λ i is. absurd (omega arith);
-  judged = λ i is. absurd (omega arith);
-  illegal = λ i. absurd (omega arith);
-  refused = λ i. absurd (omega arith);
-  source_failed = λ i. absurd (omega arith);
-  sink_failed = λ i. absurd (omega arith);
-  memory = λ i. inr (told, (v, w, others, b, a, e.0), e.1);
-  unbuilt = λ i. absurd (omega arith);
-}
+desk_did c e s r k n v w others before after b a ends =
+    did_by c s r k n before after (status_of e) (ended_did c e s r k n v w others before after b a ends)
 
 -- the first of a list is set
 pub first_set : {D : Type 0} (seen : D → DialerView) (items new : List D) (old x : D) → 0 < length items → old ≡ slice_index_or items 0 old → new ≡ slice_set items 0 x
@@ -269,9 +206,9 @@ on_command c d bytes v w result is h = let P : Command → Type 0 = λ x. Report
 
 -- the refusal of an input of too many octets
 pub refuses_many : (c : Command) (left : Option (List ℕ)) (v w : DialerView) (told : Report)
-    → w ≡ v → told ≡ report.Refused (refusal_line (faults.TooMany (codes "/") 67108865)) → HasTooMany left → Reports c left v told w
+    → w ≡ v → told ≡ report.Refused (refusal_line (faults.TooMany (codes "/") (MOST_INPUT + 1))) → HasTooMany left → Reports c left v told w
 refuses_many c left v w told same line many =
-    subst (λ (x : Report). Reports c left v x w) (sym line) (inl (faults.TooMany (codes "/") 67108865, inl (many, refl), refl), same)
+    subst (λ (x : Report). Reports c left v x w) (sym line) (inl (faults.TooMany (codes "/") (MOST_INPUT + 1), inl (many, refl), refl), same)
 
 -- what a match saw of an input
 pub input_many : (s r : SourceView) (input : Input) → input ≡ TooMany → ReadsInput s (Ok input) r → HasTooMany s.left

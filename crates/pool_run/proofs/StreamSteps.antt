@@ -1,12 +1,14 @@
 -- What reads of a source gave, and what writes to a sink put, taken together.
-use Rattle.std.proofs.Common.{◌≡◌, ℕ, ◌+◌, ◌-◌, ◌<◌, ◌≤◌, List, [], ◌∷◌, ◌++◌, zero, suc, length, take, drop, Option, None, Some, refl, ap, ◌∙◌, arith, append_assoc, append-nil, zero-add, suc-add, length-take, length-drop}
+use Rattle.std.proofs.Common.{◌≡◌, ℕ, ◌+◌, ◌-◌, ◌<◌, ◌≤◌, List, [], ◌++◌, length, take, drop, Option, None, Some, refl, ap, sym, subst, ◌∙◌, arith, append_assoc, append-nil, length-drop}
 use Rattle.std.proofs.lemmas.Grind.{common_steps}
+use Rattle.plain_values.specs.Fronts.{IsFrontOf}
+use Rattle.plain_values.proofs.Fronts.{front_more, piece_more, piece_fits}
 use Rattle.edge_traits.specs.Counts.{Rose}
 use Rattle.edge_traits.specs.Told.{Gave, Grew, IsNoneLeft}
 use Rattle.edge_traits.specs.Sources.{SourceView, SourceGave}
 use Rattle.edge_traits.specs.Sinks.{SinkView, SinkTook, SinkFailed}
 use Rattle.edge_traits.proofs.Steps.{rose_later, grew_none, grew_same, grew_trans}
-use Rattle.pool_run.specs.Streams.{IsAllOf, IsFrontOf, WritesFront}
+use Rattle.pool_run.specs.Streams.{IsAllOf, HadFront, WritesFront}
 
 -- a source gave these octets, in some reads
 pub record HasGiven (before after : SourceView) (bytes : List ℕ) : Type 0 where
@@ -41,10 +43,10 @@ given_all (Some xs) None bytes g e = absurd g
 given_all (Some xs) (Some ys) bytes g e = g ∙ (ap (λ (l : List ℕ). bytes ++ l) e ∙ append-nil bytes)
 
 -- what a source gave is a front of what it had left
-pub given_front : (a b : Option (List ℕ)) (bytes : List ℕ) → Gave a bytes b → IsFrontOf a bytes
+pub given_front : (a b : Option (List ℕ)) (bytes : List ℕ) → Gave a bytes b → HadFront a bytes
 given_front None b bytes g = tt
 given_front (Some xs) None bytes g = absurd g
-given_front (Some xs) (Some ys) bytes g = (ys, g)
+given_front (Some xs) (Some ys) bytes g = subst (IsFrontOf bytes) (sym g) (front_more bytes ys)
 
 -- a sink was given these octets, in some writes
 pub record HasPut (before after : SinkView) (bytes : List ℕ) : Type 0 where
@@ -53,18 +55,6 @@ pub record HasPut (before after : SinkView) (bytes : List ℕ) : Type 0 where
 
 pub put_none : (v : SinkView) → HasPut v v []
 put_none v = record { faults = omega arith; written = grew_none v.written }
-
-take_more : {A : Type 0} (s : List A) (i n : ℕ) → take (i + n) s ≡ take i s ++ take n (drop i s)
-take_more [] i n = grind (arith, common_steps)
-take_more (x ∷ xs) zero n = rw zero-add refl
-take_more (x ∷ xs) (suc i) n = rw suc-add (ap (λ l. x ∷ l) (take_more xs i n))
-
--- what was written so far, and the front of the rest
-piece_more : (s : List ℕ) (i n : ℕ) → n ≤ length (take (length s - i) (drop i s)) → take i s ++ take n (take (length s - i) (drop i s)) ≡ take (i + n) s
-piece_more s i n le = grind (arith, common_steps, take_more s i n)
-
-pub piece_fits : (s : List ℕ) (i n : ℕ) → i ≤ length s → n ≤ length (take (length s - i) (drop i s)) → i + n ≤ length s
-piece_fits s i n h le = omega (arith, length-take (length s - i) (drop i s), length-drop i s)
 
 -- one write more
 pub put_more : (u v w : SinkView) (s : List ℕ) (i n : ℕ) → HasPut u v (take i s) → SinkTook v w (take (length s - i) (drop i s)) n → HasPut u w (take (i + n) s)

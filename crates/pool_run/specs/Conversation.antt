@@ -19,7 +19,7 @@ pub record Spoke (before after : LinkView) (text put got : List ℕ) : Type 0 wh
   pub rest : List ℕ
   pub begins : text ≡ put ++ rest
 
--- the octets that came may still become an answer, or are one
+-- nothing came, or a head that isn't whole, or one of the first form with less than its body, or a whole answer
 abbrev pub IsOpen : List ℕ → Type 0
 IsOpen got = (got ≡ []) ⊎ (Stands got standing.More ⊎ ((response : Response) × IsFirstAnswer got response))
 
@@ -32,7 +32,8 @@ IsNoAnswer put got = ((put ≡ []) × (0 < length got)) ⊎ Stands got standing.
 abbrev pub QuietReads : ℕ → LinkView → LinkView → Type 0
 QuietReads k before after = RoseBy k before.counts.read_quiets after.counts.read_quiets
 
--- the text is out, no whole answer came and 10000 reads at least were quiet; or so many writes were
+-- the text is out, no whole answer came and 10000 reads at least were quiet; or so many writes were. The count doesn't say when they
+-- were, nor that one came behind the other
 abbrev pub IsStuck : LinkView → LinkView → List ℕ → List ℕ → List ℕ → Type 0
 IsStuck before after text put got =
     ((put ≡ text) × Stands got standing.More × QuietReads 10000 before after)

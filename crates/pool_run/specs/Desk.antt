@@ -148,7 +148,8 @@ status_of ending.SourceFailed = 4
 status_of (ending.SinkFailed told) = 5
 status_of (ending.LacksMemory told) = 6
 
--- all that the top call says of a command, by status
+-- what the top call says of a command, status by status. It says besides when no command was meant (`usage`, `untouched`) and which
+-- statuses come
 pub record DeskDid (command : Command) (status : ℕ) (source read : SourceView) (sink written : SinkView) (before after : List DialerView) : Type 0 where
   pub answered : status ≡ 0 → command ≡ commands.Serial → AnswersExchange source sink before written after
   pub checked : status ≡ 0 → command ≡ commands.Check → ChecksScenario source sink before written after

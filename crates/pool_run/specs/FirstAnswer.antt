@@ -8,6 +8,7 @@ use Rattle.net_base.specs.declared.response.Response.{Response}
 use Rattle.h1_frames.specs.declared.head.Head.{Head}
 use Rattle.h1_frames.specs.declared.head.HeadRead.TheVariants.{Whole, Part, Refused}
 use Rattle.h1_frames.specs.Heads.{IsRead}
+use Rattle.small_form.specs.declared.form.TheConstants.{MOST_BODY}
 use Rattle.pool_run.specs.declared.first_answer.Standing.{Standing}
 use Rattle.pool_run.specs.declared.first_answer.Standing.TheVariants as standing
 
@@ -20,7 +21,7 @@ pub record IsLength (value : List ℕ) (n : ℕ) : Type 0 where
   pub some : 0 < length value
   pub digits : AllPass is_ascii_digit value
   pub number : n ≡ digits_value 10 value
-  pub within : n ≤ 1048576
+  pub within : n ≤ MOST_BODY
 
 -- version 1.1, status 200, one content-length, no transfer-encoding and no connection field
 pub record IsFirstHead (head : Head) (n : ℕ) : Type 0 where

@@ -22,7 +22,7 @@ use Rattle.model_values.specs.declared.reply.SubmitReply.TheVariants.{Accepted}
 use Rattle.model_values.specs.declared.report.Report.TheVariants as report
 use Rattle.model_values.specs.declared.submission.Submission.{Submission}
 use Rattle.scenario_text.specs.Calls.{default_key}
-use Rattle.scenario_text.specs.Scenarios.{default_config}
+use Rattle.scenario_text.specs.Limits.{default_config}
 use Rattle.journal_text.specs.Lines.{journal_text}
 use Rattle.journal_summary.specs.Summary.{summary_text}
 use Rattle.pool_run.specs.Moments.{moment_of}

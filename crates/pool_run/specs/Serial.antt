@@ -1,5 +1,5 @@
 -- What a command may say of its input, and what shows it.
-use Rattle.std.specs.Prelude.{◌≡◌, ◌≢◌, ◌⊎◌, ◌≤◌, ℕ, List, [], ◌∷◌, ◌++◌, length, sum_by, codes, Option, Some, None, Result, Ok, Err}
+use Rattle.std.specs.Prelude.{◌≡◌, ◌≢◌, ◌⊎◌, ◌+◌, ◌≤◌, ℕ, List, [], ◌∷◌, ◌++◌, length, sum_by, codes, Option, Some, None, Result, Ok, Err}
 use Rattle.plain_values.specs.declared.memory.NoMem.{NoMem}
 use Rattle.net_base.specs.declared.target.Proto.TheVariants.{H1, H2}
 use Rattle.net_base.specs.declared.identity.Identity.{Identity}
@@ -10,6 +10,7 @@ use Rattle.edge_traits.specs.Links.{Place}
 use Rattle.edge_traits.specs.Dialers.{DialerView, LogLine}
 use Rattle.h1_frames.specs.RequestText.{request_text}
 use Rattle.small_form.specs.declared.form.SmallForm.{SmallForm}
+use Rattle.pool_run.specs.declared.streams.TheConstants.{MOST_INPUT}
 use Rattle.pool_run.specs.declared.ending.Command.{Command}
 use Rattle.pool_run.specs.declared.ending.Command.TheVariants as commands
 use Rattle.pool_run.specs.declared.report.Unbuilt.{Unbuilt}
@@ -48,7 +49,7 @@ IsOutside left = (bytes : List ℕ) × (s : Scenario) × IsInput left bytes × I
 -- can't be run yet
 abbrev pub IsRefused : Command → Option (List ℕ) → ScenarioFault → Type 0
 IsRefused command left fault =
-    (HasTooMany left × (fault ≡ TooMany (codes "/") 67108865))
+    (HasTooMany left × (fault ≡ TooMany (codes "/") (MOST_INPUT + 1)))
     ⊎ (((command ≢ commands.Replay) × (bytes : List ℕ) × IsInput left bytes × IsNoScenario bytes fault)
     ⊎ ((command ≡ commands.Serial) × IsOutside left × (fault ≡ Unsupported (codes "/"))))
 
@@ -102,14 +103,15 @@ pub record CameUp (before after : DialerView) (form : SmallForm) (identity : Ide
 abbrev pub QuietDials : ℕ → DialerView → DialerView → Type 0
 QuietDials k before after = RoseBy k before.counts.read_quiets after.counts.read_quiets
 
--- the request's text is out, no whole answer came and reads were quiet 10000 times; or writes were
+-- the request's text is out, no whole answer came and reads were quiet 10000 times; or writes were. The count doesn't say when they
+-- were, nor that one came behind the other
 abbrev pub IsQuiet : DialerView → DialerView → List ℕ → List ℕ → List ℕ → Type 0
 IsQuiet before after text put got =
     ((put ≡ text) × Stands got standing.More × QuietDials 10000 before after)
     ⊎ RoseBy 10000 before.counts.write_quiets after.counts.write_quiets
 
--- the connection came up to a peer that speaks HTTP/1.1; a front of the request's text was written, and what came may
--- still have become an answer
+-- the connection came up to a peer that speaks HTTP/1.1; a front of the request's text was written, and what came is nothing, a
+-- head that isn't whole, a head of the first form with less than its body, or a whole answer
 abbrev pub WasOpen : DialerView → DialerView → SmallForm → Identity → List ℕ → List ℕ → Type 0
 WasOpen before after form identity put got = CameUp before after form identity put got × (identity.proto ≡ H1) × IsOpen got
 

@@ -1,10 +1,12 @@
 -- What reading a source to its end and writing a text to a sink come to.
 use Rattle.std.specs.Prelude.{◌≡◌, ◌<◌, ◌≤◌, ℕ, List, ◌++◌, length, Option, None, Some, Result, Ok, Err}
 use Rattle.plain_values.specs.declared.memory.NoMem.{NoMem}
+use Rattle.plain_values.specs.Fronts.{IsFrontOf}
 use Rattle.edge_traits.specs.Counts.{Rose}
 use Rattle.edge_traits.specs.Told.{Grew}
 use Rattle.edge_traits.specs.Sources.{SourceView}
 use Rattle.edge_traits.specs.Sinks.{SinkView}
+use Rattle.pool_run.specs.declared.streams.TheConstants.{MOST_INPUT}
 use Rattle.pool_run.specs.declared.streams.Input.{Input}
 use Rattle.pool_run.specs.declared.streams.Input.TheVariants.{All, TooMany, Failed}
 use Rattle.pool_run.specs.declared.streams.Output.{Output}
@@ -16,17 +18,17 @@ IsAllOf None bytes = Unit {0}
 IsAllOf (Some left) bytes = left ≡ bytes
 
 -- the octets that a source had left begin with these, where it tells them
-abbrev pub IsFrontOf : Option (List ℕ) → List ℕ → Type 0
-IsFrontOf None bytes = Unit {0}
-IsFrontOf (Some left) bytes = (rest : List ℕ) × (left ≡ bytes ++ rest)
+abbrev pub HadFront : Option (List ℕ) → List ℕ → Type 0
+HadFront None bytes = Unit {0}
+HadFront (Some left) bytes = IsFrontOf bytes left
 
--- an input is all octets that its source had left, at most 67108864
+-- an input is all octets that its source had left, at most so many
 abbrev pub IsInput : Option (List ℕ) → List ℕ → Type 0
-IsInput left bytes = IsAllOf left bytes × (length bytes ≤ 67108864)
+IsInput left bytes = IsAllOf left bytes × (length bytes ≤ MOST_INPUT)
 
 -- a source has more octets left than an input may have
 abbrev pub HasTooMany : Option (List ℕ) → Type 0
-HasTooMany left = (bytes : List ℕ) × IsFrontOf left bytes × (67108864 < length bytes)
+HasTooMany left = (bytes : List ℕ) × HadFront left bytes × (MOST_INPUT < length bytes)
 
 -- a source is read to its end, or past the most octets of an input
 abbrev pub ReadsInput : SourceView → Result Input NoMem → SourceView → Type 0

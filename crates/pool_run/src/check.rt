@@ -5,6 +5,7 @@ ghost use Rattle.pool_run.specs.Check as spec;
 
 use model_values::ScriptCalls;
 use net_base::{NoMem, Octets};
+use plain_values::plus;
 use scenario_text::{Scenario, ScenarioFault};
 use std::alloc::Global;
 
@@ -19,16 +20,13 @@ pub(crate) fn check_line(alloc: Global, scenario: &Scenario) -> Result<Octets, N
     Octets::build(alloc, line.as_bytes())
 }
 
-/// How many calls the scripts have. More than a `usize` counts fit no memory.
-fn count_calls(channels: &[ScriptCalls]) -> Result<usize, NoMem>
+/// How many calls the scripts have.
+fn count_calls(channels: &[ScriptCalls]) -> Result<u64, NoMem>
     ensures { IfOk result (λ n. n ≡ sum_by length channels.now) }
 {
-    let mut n: usize = 0;
+    let mut n = 0;
     for calls in channels {
-        let Some(more) = n.checked_add(calls.len()) else {
-            return Err(NoMem);
-        };
-        n = more;
+        n = plus(n, calls.len() as u64)?;
     }
     Ok(n)
 }

@@ -1,11 +1,12 @@
 // How a run ends.
-ghost use Rattle.std.specs.Prelude.{◌≡◌, ◌≢◌, IsNone, IfOk, codes};
+ghost use Rattle.std.specs.Prelude.{◌≡◌, ◌≢◌, ◌+◌, IsNone, IfOk, codes};
 ghost use Rattle.edge_traits.specs.Dialers.{DialerView};
 ghost use Rattle.scenario_walk.specs.declared.fault.ScenarioFault.TheVariants as faults;
 ghost use Rattle.scenario_text.specs.declared.scenario.Scenario.{Scenario};
 ghost use Rattle.scenario_text.specs.Scenarios.{IsScenario};
 ghost use Rattle.pool_run.specs.declared.ending.Command.TheVariants as commands;
 ghost use Rattle.pool_run.specs.declared.report.Report.TheVariants as report;
+ghost use Rattle.pool_run.specs.declared.streams.TheConstants.{MOST_INPUT};
 ghost use Rattle.pool_run.specs.Check as spec;
 ghost use Rattle.pool_run.specs.Desk.{HasReport, ReportsOn, TellsReport, Ends, report_status, status_of};
 
@@ -13,7 +14,7 @@ use crate::check::{check_line, refusal_line};
 use crate::replay::replay_pair;
 use crate::report::Report;
 use crate::serial::run_form;
-use crate::streams::{Input, Output, read_input, write_text};
+use crate::streams::{Input, MOST_INPUT, Output, read_input, write_text};
 use edge_traits::{Dialer, Sink, Source};
 use net_base::{NoMem, Octets};
 use scenario_text::{Scenario, ScenarioFault, read_scenario};
@@ -176,12 +177,12 @@ fn refused(alloc: Global, fault: &ScenarioFault) -> Result<Report, NoMem>
     Ok(Report::Refused(refusal_line(alloc, fault)?))
 }
 
-/// The refusal of an input of more than 67108864 octets.
+/// The refusal of an input of more than `MOST_INPUT` octets.
 fn too_many_octets(alloc: Global) -> Result<Report, NoMem>
-    ensures { IfOk result (λ told. told ≡ report.Refused (spec.refusal_line (faults.TooMany (codes "/") 67108865))) }
+    ensures { IfOk result (λ told. told ≡ report.Refused (spec.refusal_line (faults.TooMany (codes "/") (MOST_INPUT + 1)))) }
 {
     let path = Octets::build(alloc, b"/")?;
-    refused(alloc, &ScenarioFault::TooMany(path, 67108865))
+    refused(alloc, &ScenarioFault::TooMany(path, MOST_INPUT as u64 + 1))
 }
 
 /// Writes a report.

@@ -6,10 +6,12 @@ ghost use Rattle.std.specs.Option.{option_copied};
 ghost use Rattle.std.specs.Str.Parse.{digits_value};
 ghost use Rattle.h1_frames.specs.Heads.{IsRead};
 ghost use Rattle.h1_frames.specs.declared.head.HeadRead.TheVariants.{Whole};
+ghost use Rattle.small_form.specs.declared.form.TheConstants.{MOST_BODY};
 ghost use Rattle.pool_run.specs.FirstAnswer.{IsFirstHead, IsLength, Stands, is_named};
 
 use h1_frames::{Head, HeadRead, read_head};
 use net_base::{Field, Fields, NoMem, Octets, Response};
+use small_form::MOST_BODY;
 use std::alloc::Global;
 
 /// How the octets received so far stand to an answer.
@@ -127,13 +129,13 @@ fn are_digits(value: &[u8]) -> bool
 #[tactic(auto, using(crate::proofs::Lengths::one_digit, crate::proofs::Lengths::is_digit_at, crate::proofs::Lengths::front_within))]
 fn number_of(digits: &[u8]) -> Option<usize>
     requires { AllPass is_ascii_digit digits.now }
-    ensures { MatchOption result (1048576 < digits_value 10 digits.now)
-        (λ n. (n ≡ digits_value 10 digits.now) × (n ≤ 1048576)) }
+    ensures { MatchOption result (MOST_BODY < digits_value 10 digits.now)
+        (λ n. (n ≡ digits_value 10 digits.now) × (n ≤ MOST_BODY)) }
 {
     let mut n = 0usize;
     for b in digits {
         n = n * 10 + usize::from(*b - b'0');
-        if n > 1048576 {
+        if n > MOST_BODY {
             return None;
         }
     }

@@ -3,20 +3,19 @@ ghost use Rattle.std.specs.Prelude.{◌≡◌, ◌+◌, [], ◌∷◌, ◌++◌,
 ghost use Rattle.pool_run.specs.Moments as moments;
 ghost use Rattle.pool_run.specs.Journal as spec;
 ghost use Rattle.scenario_text.specs.Calls.{default_key};
-ghost use Rattle.scenario_text.specs.Scenarios as scenarios;
 
 use crate::serial::target_of;
 use journal_summary::write_summary;
 use journal_text::write_journal;
 use model_values::{
-    Act, Config, Entry, History, OrderMark, OrderMarks, Report, ShutReply, Submission, SubmitReply,
-    Way,
+    Act, Entry, History, OrderMark, OrderMarks, Report, ShutReply, Submission, SubmitReply, Way,
 };
 use net_base::{
     CallerNo, ConnNo, EndCause, ExchangeNo, Identity, Moment, NoMem, Octets, PlainValue, Request,
     Response, Scheme, StreamList, StreamNo,
 };
 use partition_keys::{AltUpdate, PartitionKey, Proof, Site};
+use scenario_text::DEFAULT_CONFIG;
 use std::alloc::Global;
 
 /// The moment of a round, in milliseconds.
@@ -186,20 +185,6 @@ fn exchange_history(
     Ok(h)
 }
 
-/// The limits of a scenario that gives none.
-fn default_config() -> Config
-    ensures { result ≡ scenarios.default_config }
-{
-    Config {
-        per_group: 6,
-        total: 32,
-        streams: 100,
-        background: 2,
-        last_stream: 2147483647,
-        submissions: 5000,
-    }
-}
-
 /// The journal of an exchange and its summary.
 #[tactic(auto, unfolding(crate::specs::Journal::exchange_text))]
 pub(crate) fn exchange_text(
@@ -215,7 +200,7 @@ pub(crate) fn exchange_text(
 {
     let h = exchange_history(alloc, request, identity, sent, round, response)?;
     let mut text = write_journal(alloc, &h)?;
-    let summary = write_summary(alloc, &default_config(), &h)?;
+    let summary = write_summary(alloc, &DEFAULT_CONFIG, &h)?;
     text.extend(alloc, summary.as_slice())?;
     Ok(text)
 }

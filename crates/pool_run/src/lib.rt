@@ -1,5 +1,5 @@
 //! The top calls of the pool. `desk_main` runs a command on one thread over any source, sink and dialers, and its
-//! contract says of every status when it comes and what shows it.
+//! contract says of every status what it shows, and of 2 when it comes.
 //!
 //! The command `serial` reads a scenario, runs its exchange by turns over one connection (RFC 9112) and writes the
 //! journal of what happened and a summary. On status 0 the journal is that of the octets that went over the connection.

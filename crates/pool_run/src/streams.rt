@@ -6,7 +6,7 @@ use net_base::{NoMem, Octets};
 use std::alloc::Global;
 
 /// The most octets of an input, 64 MiB.
-const MOST_OCTETS: usize = 67108864;
+pub(crate) const MOST_INPUT: usize = 67108864;
 
 /// The octets that one read asks for.
 const PIECE_OCTETS: usize = 16384;
@@ -14,7 +14,7 @@ const PIECE_OCTETS: usize = 16384;
 /// What reading an input came to.
 #[derive(Debug, Drop)]
 pub enum Input {
-    /// All octets, at most 67108864.
+    /// All octets, at most `MOST_INPUT`.
     All(Octets),
     /// There are more.
     TooMany,
@@ -38,7 +38,7 @@ pub(crate) fn read_input<S: Source>(alloc: Global, source: &mut S) -> Result<Inp
 {
     let mut octets = Octets::new();
     let mut buffer = [0; PIECE_OCTETS];
-    while octets.len() <= MOST_OCTETS {
+    while octets.len() <= MOST_INPUT {
         match source.read(&mut buffer) {
             SourceRead::Got(0) => return Ok(Input::All(octets)),
             SourceRead::Got(n) => octets.extend(alloc, &buffer[..n])?,

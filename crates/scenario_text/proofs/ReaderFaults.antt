@@ -10,8 +10,9 @@ use Rattle.net_base.specs.declared.target.Proto.TheVariants.{H1}
 use Rattle.scenario_text.specs.Calls.{call_behind, call_of, call_word, carriage, channel, count_submits, credentials, built, default_key, earlier, key, members_of_call, payload, preconnect, reprioritise, request_body, request_with, resolved, script_call, submission, until}
 use Rattle.scenario_walk.specs.Faults.{Gives}
 use Rattle.scenario_walk.specs.Json.{IsJson}
+use Rattle.scenario_text.specs.Limits.{default_config, most_body, most_requests, most_stream, most_submissions}
 use Rattle.scenario_text.specs.Peers.{act_kind, act_word_of, answer, answer_body, answer_names, fits_frame, goaway, https_authority, members_of_act, peer, peer_act, peer_names}
-use Rattle.scenario_text.specs.Scenarios.{IsNoScenario, RefusesScenario, body_octets, config, config_names, default_config, root_names, scenario, scenario_of, submissions, within_sums}
+use Rattle.scenario_text.specs.Scenarios.{IsNoScenario, RefusesScenario, body_octets, config, config_names, limit, root_names, scenario, scenario_of, submissions, within_sums}
 use Rattle.scenario_walk.specs.Values.{net_word, proto_word}
 use Rattle.scenario_text.specs.declared.acts.ActWord.{ActWord}
 use Rattle.scenario_text.specs.declared.acts.ActWord.TheVariants.{NoDial, Hold, Drop, Limit, Goaway, Refuse, AltFrame}
@@ -48,18 +49,18 @@ answer-walks = record {
 pub goaway-walks : IsWalk goaway
 goaway-walks = record {
   at = λ path d.
-      bind _ _ ((required-walks (codes "after") _ (whole-walks 0 100000)).at path d) (λ k.
-      bind _ _ ((required-walks (codes "last") _ (whole-walks 0 2147483647)).at path d) (λ s.
+      bind _ _ ((required-walks (codes "after") _ (whole-walks 0 most_requests)).at path d) (λ k.
+      bind _ _ ((required-walks (codes "last") _ (whole-walks 0 most_stream)).at path d) (λ s.
       gives _));
 }
 
 act_kind-walks : (authority : List ℕ) (w : ActWord) (path : List ℕ) (d : Data) → Walks (act_kind authority w path d)
 act_kind-walks authority NoDial path d = gives _
-act_kind-walks authority Hold path d = bind _ _ ((required-walks (codes "until") _ (whole-walks 0 100000)).at path d) (λ k. gives _)
-act_kind-walks authority Drop path d = bind _ _ ((required-walks (codes "after") _ (whole-walks 0 100000)).at path d) (λ k. gives _)
+act_kind-walks authority Hold path d = bind _ _ ((required-walks (codes "until") _ (whole-walks 0 most_requests)).at path d) (λ k. gives _)
+act_kind-walks authority Drop path d = bind _ _ ((required-walks (codes "after") _ (whole-walks 0 most_requests)).at path d) (λ k. gives _)
 act_kind-walks authority Limit path d = bind _ _ ((required-walks (codes "n") _ (whole-walks 0 4294967295)).at path d) (λ n. gives _)
 act_kind-walks authority Goaway path d = goaway-walks.at path d
-act_kind-walks authority Refuse path d = bind _ _ ((required-walks (codes "nth") _ (whole-walks 0 100000)).at path d) (λ k. gives _)
+act_kind-walks authority Refuse path d = bind _ _ ((required-walks (codes "nth") _ (whole-walks 0 most_requests)).at path d) (λ k. gives _)
 act_kind-walks authority AltFrame path d = bind _ _ ((required-walks (codes "value") _ (text_that-walks (fits_frame authority))).at path d) (λ value. gives _)
 
 pub peer_act-walks : (proto : Proto) (authority : List ℕ) → IsWalk (peer_act proto authority)
@@ -111,8 +112,8 @@ unfolding payload
 payload-walks = record {
   at = λ path d.
       bind _ _ ((optional-walks (codes "fields") [] _ (any_list-walks _ field-walks)).at path d) (λ fields.
-      bind _ _ ((optional-walks (codes "text") None _ (some-walks _ (text_within-walks 1048576))).at path d) (λ octets.
-      bind _ _ ((optional-walks (codes "size") None _ (some-walks _ (whole-walks 0 1048576))).at path d) (λ size.
+      bind _ _ ((optional-walks (codes "text") None _ (some-walks _ (text_within-walks most_body))).at path d) (λ octets.
+      bind _ _ ((optional-walks (codes "size") None _ (some-walks _ (whole-walks 0 most_body))).at path d) (λ size.
       gives _)));
 }
 
@@ -210,16 +211,19 @@ channel-walks = record {
 
 -- ---- the whole
 
+limit-walks : (name : List ℕ) (most : ℕ) → IsWalk (limit name most)
+limit-walks name most = optional-walks name most _ (whole-walks 1 most)
+
 pub config-walks : IsWalk config
 config-walks = record {
   at = λ path d.
       behind _ _ ((only-walks config_names).at path d) (
-      bind _ _ ((optional-walks (codes "per_group") 6 _ (whole-walks 1 6)).at path d) (λ per_group.
-      bind _ _ ((optional-walks (codes "total") 32 _ (whole-walks 1 32)).at path d) (λ total.
-      bind _ _ ((optional-walks (codes "streams") 100 _ (whole-walks 1 100)).at path d) (λ streams.
-      bind _ _ ((optional-walks (codes "background") 2 _ (whole-walks 0 32)).at path d) (λ background.
-      bind _ _ ((optional-walks (codes "last_stream") 2147483647 _ (whole-walks 1 2147483647)).at path d) (λ last_stream.
-      bind _ _ ((optional-walks (codes "submissions") 5000 _ (whole-walks 1 5000)).at path d) (λ submissions.
+      bind _ _ ((limit-walks (codes "per_group") default_config.per_group).at path d) (λ per_group.
+      bind _ _ ((limit-walks (codes "total") default_config.total).at path d) (λ total.
+      bind _ _ ((limit-walks (codes "streams") default_config.streams).at path d) (λ streams.
+      bind _ _ ((optional-walks (codes "background") default_config.background _ (whole-walks 0 default_config.total)).at path d) (λ background.
+      bind _ _ ((limit-walks (codes "last_stream") default_config.last_stream).at path d) (λ last_stream.
+      bind _ _ ((limit-walks (codes "submissions") default_config.submissions).at path d) (λ submissions.
       gives _)))))));
 }
 
@@ -236,7 +240,7 @@ scenario-walks = record {
 
 within_sums-walks : (s : Scenario) → Walks (within_sums s)
 within_sums-walks s =
-    choose (nat_le (submissions s) 5000) _ _ (choose (nat_le (body_octets s) 16777216) _ _ (gives s) (record { fault = tt })) (record { fault = tt })
+    choose (nat_le (submissions s) most_submissions) _ _ (choose (nat_le (body_octets s) 16777216) _ _ (gives s) (record { fault = tt })) (record { fault = tt })
 
 scenario_of-walks : (d : Data) → Walks (scenario_of d)
 scenario_of-walks d = bind _ _ (scenario-walks.at [] d) (λ s. within_sums-walks s)

@@ -14,6 +14,7 @@ use Rattle.model_values.specs.declared.script.ScriptCall.TheVariants as call
 use Rattle.model_values.specs.declared.submission.Submission.{Submission}
 use Rattle.scenario_walk.specs.Faults.{Reader, bad, an_object, only, required, optional, list, any_list, list_behind}
 use Rattle.scenario_walk.specs.Values.{flag, text, text_within, whole, some, word, host, address, site, key_of, moment_or_none, field}
+use Rattle.scenario_text.specs.Limits.{most_body}
 use Rattle.scenario_text.specs.declared.calls.CallWord.{CallWord}
 use Rattle.scenario_text.specs.declared.calls.CallWord.TheVariants.{Submit, Cancel, Reprioritise, Preconnect, Resolved, NetworkChanged, Wait, Until}
 use Rattle.scenario_walk.specs.declared.fault.ScenarioFault.{ScenarioFault}
@@ -92,8 +93,8 @@ request_body path (Some t) (Some n) = bad path
 unfoldable pub payload : Reader Payload
 payload path d = do
   fields ← optional (codes "fields") [] (any_list field) path d
-  octets ← optional (codes "text") None (some (text_within 1048576)) path d
-  size ← optional (codes "size") None (some (whole 0 1048576)) path d
+  octets ← optional (codes "text") None (some (text_within most_body)) path d
+  size ← optional (codes "size") None (some (whole 0 most_body)) path d
   Ok (record { fields = fields; text = octets; size = size })
 
 -- how the exchange is to be carried: its urgency (RFC 9218, section 4.1), whether it is in the background, its deadline, and

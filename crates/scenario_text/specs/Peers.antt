@@ -17,6 +17,7 @@ use Rattle.net_base.specs.declared.target.Proto.{Proto}
 use Rattle.net_base.specs.declared.target.Proto.TheVariants.{H1, H2}
 use Rattle.scenario_walk.specs.Faults.{Reader, bad, an_object, only, required, optional, list, any_list}
 use Rattle.scenario_walk.specs.Values.{if_fits, flag, text, text_that, whole, some, word, proto_word, host, name, address, good_field}
+use Rattle.scenario_text.specs.Limits.{most_requests, most_stream}
 use Rattle.scenario_text.specs.declared.acts.ActWord.{ActWord}
 use Rattle.scenario_text.specs.declared.acts.ActWord.TheVariants.{NoDial, Hold, Drop, Limit, Goaway, Refuse, AltFrame}
 use Rattle.scenario_walk.specs.declared.fault.ScenarioFault.{ScenarioFault}
@@ -88,24 +89,24 @@ fits_frame authority value = nat_le (2 + length (codes "https://" ++ authority) 
 
 abbrev pub goaway : Reader ActKind
 goaway path d = do
-  k ← required (codes "after") (whole 0 100000) path d
-  s ← required (codes "last") (whole 0 2147483647) path d
+  k ← required (codes "after") (whole 0 most_requests) path d
+  s ← required (codes "last") (whole 0 most_stream) path d
   Ok (act.Goaway k (record { 0 = s }))
 
 abbrev pub act_kind : List ℕ → ActWord → Reader ActKind
 act_kind authority NoDial path d = Ok act.NoDial
 act_kind authority Hold path d = do
-  k ← required (codes "until") (whole 0 100000) path d
+  k ← required (codes "until") (whole 0 most_requests) path d
   Ok (act.Hold k)
 act_kind authority Drop path d = do
-  k ← required (codes "after") (whole 0 100000) path d
+  k ← required (codes "after") (whole 0 most_requests) path d
   Ok (act.Drop k)
 act_kind authority Limit path d = do
   n ← required (codes "n") (whole 0 4294967295) path d
   Ok (act.Limit n)
 act_kind authority Goaway path d = goaway path d
 act_kind authority Refuse path d = do
-  k ← required (codes "nth") (whole 0 100000) path d
+  k ← required (codes "nth") (whole 0 most_requests) path d
   Ok (act.Refuse k)
 act_kind authority AltFrame path d = do
   value ← required (codes "value") (text_that (fits_frame authority)) path d

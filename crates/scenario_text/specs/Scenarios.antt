@@ -13,6 +13,7 @@ use Rattle.model_values.specs.declared.script.ScriptCall.TheVariants.{Submit, Ca
 use Rattle.scenario_text.specs.Calls.{channel}
 use Rattle.scenario_walk.specs.Faults.{Reader, only, required, optional, list}
 use Rattle.scenario_walk.specs.Json.{IsJson, IsNoJson}
+use Rattle.scenario_text.specs.Limits.{default_config, most_submissions}
 use Rattle.scenario_text.specs.Peers.{peer}
 use Rattle.scenario_walk.specs.Values.{whole, word, net_word}
 use Rattle.scenario_walk.specs.declared.fault.ScenarioFault.{ScenarioFault}
@@ -21,8 +22,9 @@ use Rattle.scenario_text.specs.declared.scenario.Scenario.{Scenario}
 
 -- ---- the walk
 
-abbrev pub default_config : Config
-default_config = record { per_group = 6; total = 32; streams = 100; background = 2; last_stream = 2147483647; submissions = 5000 }
+-- a limit from 1 to the one of a scenario that gives none
+abbrev pub limit : List ℕ → ℕ → Reader ℕ
+limit name most = optional name most (whole 1 most)
 
 abbrev pub config_names : List (List ℕ)
 config_names =
@@ -31,12 +33,12 @@ config_names =
 abbrev pub config : Reader Config
 config path d = do
   only config_names path d
-  per_group ← optional (codes "per_group") 6 (whole 1 6) path d
-  total ← optional (codes "total") 32 (whole 1 32) path d
-  streams ← optional (codes "streams") 100 (whole 1 100) path d
-  background ← optional (codes "background") 2 (whole 0 32) path d
-  last_stream ← optional (codes "last_stream") 2147483647 (whole 1 2147483647) path d
-  submissions ← optional (codes "submissions") 5000 (whole 1 5000) path d
+  per_group ← limit (codes "per_group") default_config.per_group path d
+  total ← limit (codes "total") default_config.total path d
+  streams ← limit (codes "streams") default_config.streams path d
+  background ← optional (codes "background") default_config.background (whole 0 default_config.total) path d
+  last_stream ← limit (codes "last_stream") default_config.last_stream path d
+  submissions ← limit (codes "submissions") default_config.submissions path d
   Ok (record { per_group = per_group; total = total; streams = streams; background = background; last_stream = last_stream; submissions = submissions })
 
 abbrev pub root_names : List (List ℕ)
@@ -98,10 +100,10 @@ all_request_octets s = sum_by (λ calls. sum_by request_octets calls) s.channels
 abbrev pub body_octets : Scenario → ℕ
 body_octets s = submissions s * largest_body s.peers + all_request_octets s
 
--- at most 5000 submissions, and at most 16777216 octets by this sum
+-- no more submissions than a scenario may have, and at most 16777216 octets by this sum
 abbrev pub within_sums : Scenario → Result Scenario ScenarioFault
 within_sums s =
-    if nat_le (submissions s) 5000
+    if nat_le (submissions s) most_submissions
     then (if nat_le (body_octets s) 16777216 then Ok s else Err (TooMany (codes "/") (body_octets s)))
     else Err (TooMany (codes "/channels") (submissions s))
 

@@ -5,6 +5,7 @@ ghost use Rattle.scenario_walk.specs.Faults.{Gives};
 ghost use Rattle.scenario_text.specs.Peers as spec;
 ghost use Rattle.scenario_walk.specs.Values.{word, text_that};
 
+use crate::limits::MOST_STREAM;
 use net_base::{ActKind, ConnNo, Octets, PeerAct, Proto, StreamNo};
 use scenario_walk::{
     At, Given, Reads, ScenarioFault, Whole, an_object, bad, only, optional, required, text_of,
@@ -171,7 +172,7 @@ fn goaway(alloc: Global, at: &At) -> Result<ActKind, ScenarioFault>
         "last",
         &Whole {
             least: 0,
-            most: 2147483647,
+            most: MOST_STREAM,
         },
     )?;
     Ok(ActKind::Goaway {

@@ -9,10 +9,12 @@
 mod acts;
 mod answers;
 mod calls;
+mod limits;
 mod peers;
 mod scenario;
 mod submissions;
 
+pub use limits::DEFAULT_CONFIG;
 pub use scenario::{Scenario, read_scenario};
 pub use scenario_walk::ScenarioFault;
 

@@ -1,15 +1,17 @@
 // Scenarios, and how they are read.
-ghost use Rattle.std.specs.Prelude.{◌≡◌, ◌+◌, ◌*◌, IfOk, IfErr, count_by, sum_by};
+ghost use Rattle.std.specs.Prelude.{◌≡◌, ◌*◌, IfOk, IfErr, count_by, sum_by};
 ghost use Rattle.serde_json.specs.View.{view};
 ghost use Rattle.scenario_walk.specs.Faults.{Gives};
 ghost use Rattle.scenario_text.specs.Scenarios as spec;
 ghost use Rattle.scenario_text.specs.Scenarios.{IsScenario, RefusesScenario};
 
 use crate::calls::ChannelObject;
+use crate::limits::{DEFAULT_CONFIG, MOST_SUBMISSIONS};
 use crate::peers::PeerObject;
 use edge_traits::NetKind;
 use model_values::{Config, ScriptCall, ScriptCalls, Scripts};
 use net_base::{Answer, AnswerBody, NoMem, Octets, Peer, PeerBook};
+use plain_values::plus;
 use scenario_walk::{
     At, ListOf, NetWord, Reads, ScenarioFault, Whole, only, optional, required, too_many,
 };
@@ -68,14 +70,12 @@ const CONFIG_NAMES: [&str; 6] = [
     "submissions",
 ];
 
-const DEFAULT_CONFIG: Config = Config {
-    per_group: 6,
-    total: 32,
-    streams: 100,
-    background: 2,
-    last_stream: 2147483647,
-    submissions: 5000,
-};
+/// A limit from 1 to the one of a scenario that gives none.
+fn limit(alloc: Global, at: &At, name: &str, most: u32) -> Result<u32, ScenarioFault>
+    ensures { Gives result (spec.limit name.now most at.now.path (view at.now.value.now)) }
+{
+    optional(alloc, at, name, most, &Whole { least: 1, most })
+}
 
 /// The limits of the pool.
 #[derive(Drop)]
@@ -86,32 +86,28 @@ impl Reads<Config> for ConfigObject {
 
     fn read(&self, alloc: Global, at: &At) -> Result<Config, ScenarioFault> {
         only(alloc, at, &CONFIG_NAMES)?;
-        let per_group = optional(alloc, at, "per_group", 6, &Whole { least: 1, most: 6 })?;
-        let total = optional(alloc, at, "total", 32, &Whole { least: 1, most: 32 })?;
-        let streams = optional(
+        let per_group = limit(alloc, at, "per_group", DEFAULT_CONFIG.per_group)?;
+        let total = limit(alloc, at, "total", DEFAULT_CONFIG.total)?;
+        let streams = limit(alloc, at, "streams", DEFAULT_CONFIG.streams)?;
+        let background = optional(
             alloc,
             at,
-            "streams",
-            100,
+            "background",
+            DEFAULT_CONFIG.background,
             &Whole {
-                least: 1,
-                most: 100,
+                least: 0,
+                most: DEFAULT_CONFIG.total,
             },
         )?;
-        let background = optional(alloc, at, "background", 2, &Whole { least: 0, most: 32 })?;
-        let last = Whole {
-            least: 1,
-            most: 2147483647,
-        };
-        let last_stream = optional(alloc, at, "last_stream", 2147483647, &last)?;
+        let last_stream = limit(alloc, at, "last_stream", DEFAULT_CONFIG.last_stream)?;
         let submissions = optional(
             alloc,
             at,
             "submissions",
-            5000,
+            DEFAULT_CONFIG.submissions,
             &Whole {
                 least: 1,
-                most: 5000,
+                most: DEFAULT_CONFIG.submissions,
             },
         )?;
         Ok(Config {
@@ -164,7 +160,7 @@ fn within_sums(alloc: Global, scenario: Scenario) -> Result<Scenario, ScenarioFa
     ensures { Gives result (spec.within_sums scenario) }
 {
     let submissions = submissions(scenario.channels.as_slice())?;
-    if submissions > 5000 {
+    if submissions > MOST_SUBMISSIONS {
         return Err(too_many(alloc, b"/channels", submissions));
     }
     let octets = body_octets(&scenario)?;
@@ -186,17 +182,7 @@ fn body_octets(scenario: &Scenario) -> Result<u64, NoMem>
     plus(answers, requests)
 }
 
-/// The sum. It fits: a scenario of 18446744073709551616 octets is in no memory.
-fn plus(a: u64, b: u64) -> Result<u64, NoMem>
-    ensures { IfOk result (λ n. n ≡ a + b) }
-{
-    match a.checked_add(b) {
-        Some(n) => Ok(n),
-        None => Err(NoMem),
-    }
-}
-
-/// The product. It fits: a body of 18446744073709551616 octets, parted among 5000, is in no memory.
+/// The product. It fits: a body of 2^64 octets, parted among the submissions, is in no memory.
 fn times(a: u64, b: u64) -> Result<u64, NoMem>
     ensures { IfOk result (λ n. n ≡ a * b) }
 {

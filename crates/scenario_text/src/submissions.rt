@@ -6,6 +6,7 @@ ghost use Rattle.scenario_text.specs.Calls as spec;
 ghost use Rattle.scenario_walk.specs.Faults.{Gives, GivesText, required};
 ghost use Rattle.scenario_walk.specs.Values.{text};
 
+use crate::limits::MOST_BODY;
 use model_values::Submission;
 use net_base::{BuildFault, Fields, Moment, NoMem, Octets, Request, Scheme};
 use partition_keys::PartitionKey;
@@ -118,7 +119,9 @@ fn payload_in(alloc: Global, at: &At) -> Result<Payload, ScenarioFault>
         at,
         "text",
         None,
-        &Given(TextWithin { most: 1048576 }),
+        &Given(TextWithin {
+            most: MOST_BODY as usize,
+        }),
     )?;
     let size = optional(
         alloc,
@@ -127,7 +130,7 @@ fn payload_in(alloc: Global, at: &At) -> Result<Payload, ScenarioFault>
         None,
         &Given(Whole {
             least: 0,
-            most: 1048576,
+            most: MOST_BODY,
         }),
     )?;
     Ok(Payload { fields, text, size })

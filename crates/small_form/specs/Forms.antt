@@ -14,6 +14,7 @@ use Rattle.net_base.specs.Hosts.{is_plain_host}
 use Rattle.net_base.specs.Requests.{get_request}
 use Rattle.scenario_walk.specs.Faults.{is_among}
 use Rattle.scenario_walk.specs.Json.{IsJson}
+use Rattle.small_form.specs.declared.form.TheConstants.{MOST_BODY}
 use Rattle.small_form.specs.declared.form.SmallForm.{SmallForm}
 
 -- each member has one of these names
@@ -59,9 +60,9 @@ if_port n = if nat_le 1 n && nat_le n 65535 then Some n else None
 abbrev pub port_at : List ℕ → Data → Option ℕ
 port_at name d = option_and_then if_port (option_and_then as_u64 (option_and_then as_number (get name d)))
 
--- at most 1 MiB, in octets
+-- at most as many octets as a body may have
 abbrev pub if_short : List ℕ → Option (List ℕ)
-if_short text = if nat_le (length text) 1048576 then Some text else None
+if_short text = if nat_le (length text) MOST_BODY then Some text else None
 
 abbrev pub short_text_at : List ℕ → Data → Option (List ℕ)
 short_text_at name d = option_and_then if_short (text_at name d)

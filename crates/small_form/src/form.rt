@@ -17,6 +17,9 @@ use scenario_walk::is_among;
 use serde_json::{Map, Value};
 use std::alloc::Global;
 
+/// The most octets of a body, 1 MiB.
+pub const MOST_BODY: usize = 1048576;
+
 /// What the small form gives: a book of one scripted peer with one answer, and the one request that is submitted.
 #[derive(Debug, Drop)]
 pub struct SmallForm {
@@ -240,12 +243,12 @@ fn text_at<'v>(value: &'v Value, name: &str) -> Option<&'v str>
     value.get(name).and_then(Value::as_str)
 }
 
-/// The text, where it has at most 1 MiB.
+/// The text, where a body may have as many octets.
 fn short_text_at<'v>(value: &'v Value, name: &str) -> Option<&'v str>
     ensures { option_copied result ≡ spec.short_text_at name.now (view value.now) }
 {
     match text_at(value, name) {
-        Some(text) if text.len() <= 1048576 => Some(text),
+        Some(text) if text.len() <= MOST_BODY => Some(text),
         _ => None,
     }
 }

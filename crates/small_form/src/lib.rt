@@ -6,7 +6,7 @@
 
 mod form;
 
-pub use form::{FormFault, SmallForm, read_form};
+pub use form::{FormFault, MOST_BODY, SmallForm, read_form};
 
 #[cfg(test)]
 mod tests;

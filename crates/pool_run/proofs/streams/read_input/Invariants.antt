@@ -1,4 +1,5 @@
-use Rattle.std.proofs.Common.{◌-◌, length}
+use Rattle.std.proofs.Common.{◌+◌, ◌-◌, length}
+use Rattle.pool_run.specs.declared.streams.TheConstants.{MOST_INPUT}
 use Rattle.pool_run.proofs.StreamSteps.{HasGiven}
 use Rattle.pool_run.proofs.streams.read_input.Given as goal
 
@@ -6,4 +7,4 @@ abbrev pub invariant-loop-alloc : goal.invariant-loop-alloc
 invariant-loop-alloc g l = HasGiven (g.S.Source.seen l.initial.source) (g.S.Source.seen l.source) l.octets
 
 abbrev pub decreases-loop-alloc : goal.decreases-loop-alloc
-decreases-loop-alloc g l = 67108865 - length l.octets
+decreases-loop-alloc g l = MOST_INPUT + 1 - length l.octets

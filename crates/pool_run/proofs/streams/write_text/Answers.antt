@@ -1,4 +1,5 @@
-use Rattle.pool_run.proofs.StreamSteps.{piece_fits, put_more, front_refused, front_failed, front_kept}
+use Rattle.plain_values.proofs.Fronts.{piece_fits}
+use Rattle.pool_run.proofs.StreamSteps.{put_more, front_refused, front_failed, front_kept}
 use Rattle.pool_run.proofs.streams.write_text.Goals as goal
 
 pub returns-in-Took-eq0 : goal.returns-in-Took-eq0
