@@ -61,12 +61,12 @@ orderly_leaves config x y k h =
     }
 
 pub orderly_sent : (config : Config) (sent : ℕ) (c : Connection) → HasStreamsInOrder config c → HasStreamsInOrder config (with_sent sent c)
-orderly_sent config sent c h = record { started = h.started; ordered = h.ordered; opening = λ o. let none = h.opening o in record { started = none.started; ordered = none.ordered; live = none.live }; closing = h.closing; streams = h.streams }
+orderly_sent config sent c h = record { started = h.started; ordered = h.ordered; opening = λ o. let none = h.opening o in record { started = none.started; ordered = none.ordered; live = none.live }; closing = h.closing; streams = record { h2 = h.streams.h2; h1 = h.streams.h1 } }
 
 -- ---- the end
 
 pub orderly_gone : (config : Config) (c : Connection) → HasStreamsInOrder config c → HasStreamsInOrder config (gone c)
-orderly_gone config c h = record { started = h.started; ordered = h.ordered; opening = λ o. absurd cc; closing = λ t. absurd cc; streams = h.streams }
+orderly_gone config c h = record { started = h.started; ordered = h.ordered; opening = λ o. absurd cc; closing = λ t. absurd cc; streams = record { h2 = h.streams.h2; h1 = h.streams.h1 } }
 
 -- ---- being wanted, dialed and opened
 
@@ -91,7 +91,7 @@ orderly_dialing config who c wanted h = record {
       let none = h.opening (follows is_wanted is_opening refl c.phase wanted) in
       record { started = none.started; ordered = none.ordered; live = none.live };
   closing = λ t. absurd cc;
-  streams = h.streams;
+  streams = record { h2 = h.streams.h2; h1 = h.streams.h1 };
 }
 
 -- one without streams may have any identity, and any next stream
@@ -171,5 +171,5 @@ orderly_with_taken config orders c are h =
           let taken : streams_started orders ≡ [] = same ∙ none.ordered in
           record { started = ap (λ (rs : List StreamNo). rs ++ streams_started orders) none.started ∙ taken; ordered = refl; live = none.live };
       closing = λ t. refl;
-      streams = h.streams;
+      streams = record { h2 = h.streams.h2; h1 = h.streams.h1 };
     }
