@@ -161,23 +161,28 @@ fn closed(alloc: Global) -> Result<Act, NoMem> {
     })
 }
 
+fn add(alloc: Global, h: &mut History, act: Act) -> Result<(), NoMem> {
+    let entry = Entry {
+        who: CallerNo(2),
+        moment: Moment(10),
+        act,
+    };
+    h.push(alloc, entry)
+}
+
+fn by_hand(alloc: Global) -> Result<History, NoMem> {
+    let mut h = History::new();
+    add(alloc, &mut h, post(alloc)?)?;
+    add(alloc, &mut h, orders(alloc)?)?;
+    add(alloc, &mut h, answered(alloc)?)?;
+    add(alloc, &mut h, closed(alloc)?)?;
+    Ok(h)
+}
+
 #[test]
 fn entries_have_the_words_of_their_values(rt: HostRuntime) -> Result<(), Fail> {
     let alloc = rt.alloc();
-    let mut h = History::new();
-    for act in [
-        post(alloc)?,
-        orders(alloc)?,
-        answered(alloc)?,
-        closed(alloc)?,
-    ] {
-        let entry = Entry {
-            who: CallerNo(2),
-            moment: Moment(10),
-            act,
-        };
-        h.push(alloc, entry)?;
-    }
+    let h = by_hand(alloc)?;
     assert_eq!(rt; write_journal(alloc, &h)?.as_slice(), BY_HAND.as_bytes());
     Ok(())
 }
