@@ -1,7 +1,7 @@
 -- How lines are read back, act by act: what the journal writes of an act is read as that act. As with words (`Readers`), more
 -- than that may be read, so what was read is written again and compared.
-use Rattle.std.specs.Prelude.{◌≡◌, ◌⊎◌, MatchResult, drop, ℕ, zero, suc, true, false, List, [], ◌∷◌, codes, bytes_eq, length, Result, Ok, Err, if◌then◌else◌}
-use Rattle.net_base.specs.Results.{◌>>=◌}
+use Rattle.std.specs.Prelude.{drop, ℕ, zero, suc, true, false, List, [], ◌∷◌, codes, bytes_eq, length, Result, Ok, Err, if◌then◌else◌}
+use Rattle.net_base.specs.Results.{◌>>=◌, GivesSeen}
 use Rattle.net_base.specs.declared.numbers.ConnNo.{ConnNo}
 use Rattle.net_base.specs.declared.numbers.ExchangeNo.{ExchangeNo}
 use Rattle.net_base.specs.declared.numbers.StreamNo.{StreamNo}
@@ -261,8 +261,7 @@ order_marks_within (suc n) (word ∷ words) = do
 
 -- the result is what is read of these words, unless memory ran out: of an order and how many words it has
 abbrev pub GivesMark : Result MarkAndWords WordFault → List (List ℕ) → Type 0
-GivesMark result words =
-    MatchResult result (λ x. order_mark words ≡ Ok (x.mark, drop x.words words)) (λ e. (order_mark words ≡ Err e) ⊎ (e ≡ NoMem))
+GivesMark result words = GivesSeen NoMem (λ x. (x.mark, drop x.words words)) result (order_mark words)
 
 -- as many orders as the words hold, of which each has one word at least
 abbrev pub order_marks : WordsReader (List OrderMark)

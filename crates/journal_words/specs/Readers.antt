@@ -1,13 +1,13 @@
 -- How words are read back. What the journal writes is read as what it was written for. A reader may take more than that (octets
 -- in upper-case digits, say), so whoever reads a line writes what was read again and compares.
-use Rattle.std.specs.Prelude.{◌≡◌, ◌⊎◌, ℕ, ◌+◌, ◌==◌, ◌&&◌, nat_le, Bool, true, false, List, [], ◌∷◌, take, drop, codes, bytes_eq, Option, Some, None, Result, Ok, Err, MatchResult, if◌then◌else◌}
+use Rattle.std.specs.Prelude.{ℕ, ◌+◌, ◌==◌, ◌&&◌, nat_le, Bool, true, false, List, [], ◌∷◌, take, drop, codes, bytes_eq, Option, Some, None, Result, Ok, Err, if◌then◌else◌}
 use Rattle.std.specs.List.{slice_split}
 use Rattle.std.specs.Fmt.{decimal}
 use Rattle.std.specs.Str.{is_utf8}
 use Rattle.std.specs.Str.Parse.{digits_value}
 use Rattle.hex.specs.Hex.{decode_of, decode_sized}
 use Rattle.hex.specs.declared.error.FromHexError.{FromHexError}
-use Rattle.net_base.specs.Results.{◌>>=◌}
+use Rattle.net_base.specs.Results.{◌>>=◌, GivesSeen}
 use Rattle.net_base.specs.declared.end_cause.EndCause.{EndCause}
 use Rattle.net_base.specs.declared.end_cause.EndCause.TheVariants.{DialFailed, End, LinkFault, Broken, Done}
 use Rattle.net_base.specs.declared.field.Field.{Field}
@@ -38,7 +38,7 @@ use Rattle.journal_words.specs.declared.faults.WordFault.TheVariants.{NoMem, Unr
 
 -- the result is the expected one, unless memory ran out
 abbrev pub Gives : {T : Type 0} → Result T WordFault → Result T WordFault → Type 0
-Gives result expected = MatchResult result (λ x. expected ≡ Ok x) (λ e. (expected ≡ Err e) ⊎ (e ≡ NoMem))
+Gives result expected = GivesSeen NoMem (λ x. x) result expected
 
 -- what a word is read as
 abbrev pub Reader : Type 0 → Type 0

@@ -1,5 +1,5 @@
 -- Which requests there are, and how one is read from a method, a URL, fields and a body.
-use Rattle.std.specs.Prelude.{◌≡◌, ◌⊎◌, ⊤, List, ℕ, [], ◌∷◌, ◌++◌, ◌==◌, ◌&&◌, ◌||◌, not, ◌-◌, nat_lt, nat_le, Bool, false, codes, bytes_eq, length, map, slice_get, Option, Some, None, unwrap_or, Result, Ok, Err, MatchResult}
+use Rattle.std.specs.Prelude.{⊤, List, ℕ, [], ◌∷◌, ◌++◌, ◌==◌, ◌&&◌, ◌||◌, not, ◌-◌, nat_lt, nat_le, Bool, false, codes, bytes_eq, length, map, slice_get, Option, Some, None, unwrap_or, Result, Ok, Err}
 use Rattle.std.specs.List.{list_all, list_any, position}
 use Rattle.http_header.specs.Token.{is_token_byte, is_value_byte, lowercase}
 use Rattle.url.specs.declared.error.ParseError.{ParseError}
@@ -13,11 +13,11 @@ use Rattle.net_base.specs.declared.request.Request.{Request}
 use Rattle.net_base.specs.declared.request.BuildFault.{BuildFault}
 use Rattle.net_base.specs.declared.request.BuildFault.TheVariants.{NoMem, BadMethod, ForbiddenMethod, BadUrl, BadScheme, TooManyFields, BadField, ForbiddenField, BodyTooLarge}
 use Rattle.net_base.specs.Origins.{scheme_of, default_port_of}
-use Rattle.net_base.specs.Results.{◌>>=◌, ◌>>◌, demand}
+use Rattle.net_base.specs.Results.{◌>>=◌, ◌>>◌, demand, GivesSeen}
 
 -- the result is the expected one, unless memory ran out
 abbrev pub Gives : {T : Type 0} → Result T BuildFault → Result T BuildFault → Type 0
-Gives result expected = MatchResult result (λ x. expected ≡ Ok x) (λ e. (expected ≡ Err e) ⊎ (e ≡ NoMem))
+Gives result expected = GivesSeen NoMem (λ x. x) result expected
 
 -- ---- the method
 

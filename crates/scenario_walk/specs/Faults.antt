@@ -1,18 +1,18 @@
 -- The walk through a value of JSON: what each part is read as, and the first fault in the walk.
-use Rattle.std.specs.Prelude.{◌≡◌, ◌⊎◌, ⊤, ℕ, List, [], ◌∷◌, ◌++◌, ◌==◌, nat_le, Bool, codes, decimal, bytes_eq, length, map, Option, Some, None, option_map, Result, Ok, Err, MatchResult, if◌then◌else◌}
+use Rattle.std.specs.Prelude.{◌≡◌, ◌⊎◌, ⊤, ℕ, List, [], ◌∷◌, ◌++◌, ◌==◌, nat_le, Bool, codes, decimal, bytes_eq, length, map, Option, Some, None, option_map, Result, Ok, Err, if◌then◌else◌}
 use Rattle.std.specs.Borrow.{Bor}
 use Rattle.std.specs.List.{list_any, flat_map}
 use Rattle.serde_json.specs.Data.{Data, Items, no_items, item, Members, no_members, member}
 use Rattle.serde_json.specs.Find.{get, as_array, as_object}
 use Rattle.serde_json.specs.View.{view}
 use Rattle.serde_json.specs.declared.value.Value.{Value}
-use Rattle.net_base.specs.Results.{◌>>=◌}
+use Rattle.net_base.specs.Results.{◌>>=◌, GivesSeen}
 use Rattle.scenario_walk.specs.declared.fault.ScenarioFault.{ScenarioFault}
 use Rattle.scenario_walk.specs.declared.fault.ScenarioFault.TheVariants.{NoMem, Unsupported, BadValue, TooMany}
 
 -- the result is the expected one, unless memory ran out
 abbrev pub Gives : {T : Type 0} → Result T ScenarioFault → Result T ScenarioFault → Type 0
-Gives result expected = MatchResult result (λ x. expected ≡ Ok x) (λ e. (expected ≡ Err e) ⊎ (e ≡ NoMem))
+Gives result expected = GivesSeen NoMem (λ x. x) result expected
 
 -- the fault is the expected one, unless memory ran out
 abbrev pub IsFault : ScenarioFault → ScenarioFault → Type 0
@@ -20,10 +20,10 @@ IsFault fault expected = (expected ≡ fault) ⊎ (fault ≡ NoMem)
 
 -- the result is the expected one, unless memory ran out: of a text and of items that are borrowed
 abbrev pub GivesText : Result (Bor (List ℕ)) ScenarioFault → Result (List ℕ) ScenarioFault → Type 0
-GivesText result expected = MatchResult result (λ x. expected ≡ Ok x.now) (λ e. (expected ≡ Err e) ⊎ (e ≡ NoMem))
+GivesText result expected = GivesSeen NoMem (λ x. x.now) result expected
 
 abbrev pub GivesItems : Result (Bor (List Value)) ScenarioFault → Result (List Data) ScenarioFault → Type 0
-GivesItems result expected = MatchResult result (λ x. expected ≡ Ok (map view x.now)) (λ e. (expected ≡ Err e) ⊎ (e ≡ NoMem))
+GivesItems result expected = GivesSeen NoMem (λ x. map view x.now) result expected
 
 -- how a value is read at its path: what it gives, or the first fault in it
 abbrev pub Reader : Type 0 → Type 0
