@@ -1,25 +1,18 @@
 -- Orders read one after another.
-use Rattle.std.proofs.Common.{◌≡◌, ◌⊎◌, inl, inr, ℕ, suc, ◌+◌, ◌-◌, ◌<◌, ◌≤◌, List, [], ◌∷◌, ◌++◌, Result, Ok, Err, IfOk, length, drop, length-append, append_assoc, append-nil, refl, ap, sym, ◌∙◌, arith}
+use Rattle.std.proofs.Common.{◌≡◌, ◌⊎◌, inl, inr, ℕ, suc, ◌+◌, ◌-◌, ◌<◌, ◌≤◌, List, [], ◌∷◌, ◌++◌, Result, Ok, Err, IfOk, length, drop, length-append, refl, ap, sym, ◌∙◌, arith}
 use Rattle.std.proofs.lemmas.List.{drop_all, length-drop, drop-drop}
 use Rattle.net_base.specs.Results.{◌>>=◌}
+use Rattle.net_base.proofs.Rests.{behind, behind_none, item_and_rest, rest_done}
 use Rattle.model_values.specs.declared.order.OrderMark.{OrderMark}
 use Rattle.journal_words.specs.declared.faults.WordFault.{WordFault}
 use Rattle.journal_words.specs.declared.faults.WordFault.TheVariants as word
 use Rattle.journal_lines.specs.declared.read_works.MarkAndWords.{MarkAndWords}
 use Rattle.journal_lines.specs.LineReaders.{order_mark, order_marks, order_marks_within}
 
--- what the words so far gave, in front of what the rest gives
-abbrev pub behind : List OrderMark → Result (List OrderMark) WordFault → Result (List OrderMark) WordFault
-behind marks rest = rest >>= λ ms. Ok (marks ++ ms)
-
 -- so many words are read: each order had one at least
 abbrev pub IsReadTo : List (List ℕ) → List OrderMark → ℕ → Type 0
 IsReadTo words marks at =
     (length marks ≤ at) × ((at ≤ length words) × (order_marks words ≡ behind marks (order_marks_within (length words - length marks) (drop at words))))
-
-behind_none : (r : Result (List OrderMark) WordFault) → r ≡ behind [] r
-behind_none (Ok ms) = refl
-behind_none (Err e) = refl
 
 pub read_none : (words : List (List ℕ)) → IsReadTo words [] 0
 read_none words =
@@ -30,11 +23,6 @@ step : (n : ℕ) (words : List (List ℕ)) → 0 < length words
     → order_marks_within (suc n) words ≡ (order_mark words >>= λ first. order_marks_within n first.1 >>= λ others. Ok (first.0 ∷ others))
 step n [] some = absurd (omega (arith, some))
 step n (word ∷ words) some = refl
-
-first_and_rest : (marks : List OrderMark) (m : OrderMark) (rest : Result (List OrderMark) WordFault)
-    → behind marks (rest >>= λ ms. Ok (m ∷ ms)) ≡ behind (marks ++ m ∷ []) rest
-first_and_rest marks m (Ok ms) = ap (λ xs. Ok xs) (sym (append_assoc marks (m ∷ []) ms))
-first_and_rest marks m (Err e) = refl
 
 -- an order behind those so far
 pub read_more : (words : List (List ℕ)) (marks : List OrderMark) (m : OrderMark) (at n : ℕ) → IsReadTo words marks at → at < length words
@@ -51,7 +39,7 @@ read_more words marks m at n so_far lt is some fits =
       (
         fits,
         so_far.1.1 ∙ ap (λ f. behind marks (order_marks_within f (drop at words))) fuel ∙ ap (λ r. behind marks r) here
-            ∙ first_and_rest marks m (order_marks_within k (drop (at + n) words)),
+            ∙ item_and_rest marks m (order_marks_within k (drop (at + n) words)),
       ),
     )
 
@@ -67,7 +55,8 @@ read_stop words marks e at so_far lt is =
 
 pub read_done : (words : List (List ℕ)) (marks : List OrderMark) (at : ℕ) → IsReadTo words marks at → length words ≤ at → order_marks words ≡ Ok marks
 read_done words marks at so_far le =
-    so_far.1.1 ∙ ap (λ ws. behind marks (order_marks_within (length words - length marks) ws)) (drop_all at words le) ∙ ap (λ xs. Ok xs) (append-nil marks)
+    let none : order_marks_within (length words - length marks) (drop at words) ≡ Ok [] = ap (λ ws. order_marks_within (length words - length marks) ws) (drop_all at words le) in
+    rest_done marks (order_marks words) (order_marks_within (length words - length marks) (drop at words)) none so_far.1.1
 
 -- what is within the words behind so many is within all
 pub within_words : (r : Result MarkAndWords WordFault) (n rest all : ℕ) → n ≤ all → rest ≡ all - n

@@ -1,5 +1,5 @@
 -- Lists of words, one after another, the last mark in a text, and keys.
-use Rattle.std.proofs.Common.{◌≡◌, ◌≢◌, ◌⊎◌, inl, inr, ◌&&◌, ℕ, ◌+◌, ◌^◌, ◌<◌, ◌≤◌, ◌==◌, nat_le, bytes_eq, not, List, [], ◌∷◌, ◌++◌, Bool, true, false, Option, Some, None, Result, Ok, Err, map, length, take, drop, get_or, append_assoc, append-nil, IfSome, IsUtf8, if◌then◌else◌, refl, ap, sym, subst, ◌∙◌, arith}
+use Rattle.std.proofs.Common.{◌≡◌, ◌≢◌, ◌⊎◌, inl, inr, ◌&&◌, ℕ, ◌+◌, ◌^◌, ◌<◌, ◌≤◌, ◌==◌, nat_le, bytes_eq, not, List, [], ◌∷◌, ◌++◌, Bool, true, false, Option, Some, None, Result, Ok, Err, map, length, take, drop, get_or, IfSome, IsUtf8, if◌then◌else◌, refl, ap, sym, subst, ◌∙◌, arith}
 use Rattle.std.specs.Borrow.{Bor}
 use Rattle.std.specs.Fmt.{decimal}
 use Rattle.std.proofs.lemmas.Bool.Decides.{Decides-eqb, leb_tells}
@@ -8,25 +8,12 @@ use Rattle.std.proofs.lemmas.Slice.Eq.{bytes_eq-Decides}
 use Rattle.std.proofs.lemmas.List.{drop_more, drop_all, length-take-le, take_more}
 use Rattle.std.proofs.lemmas.Str.{IsUtf8-from_is_utf8, is_utf8-from_IsUtf8}
 use Rattle.std.specs.Str.{is_utf8}
-use Rattle.net_base.specs.Results.{◌>>=◌}
+use Rattle.net_base.proofs.Rests.{behind, with_rest, rest_more, rest_stop, rest_done}
 use Rattle.partition_keys.specs.Sites.{site_of}
 use Rattle.journal_words.specs.Readers.{Reader, each, last_place, later, key, key_in, number, number_if, unreadable}
 use Rattle.journal_words.specs.declared.faults.WordFault.{WordFault}
 
 -- ---- words
-
--- what the words so far gave, in front of what the rest gives
-abbrev pub behind : {A : Type 0} → List A → Result (List A) WordFault → Result (List A) WordFault
-behind all rest = rest >>= λ xs. Ok (all ++ xs)
-
--- what a word gives, in front of what the rest gives
-abbrev with_rest : {A : Type 0} → Result (List A) WordFault → Result A WordFault → Result (List A) WordFault
-with_rest rest here = here >>= λ x. rest >>= λ xs. Ok (x ∷ xs)
-
-word_and_rest : {A : Type 0} (all : List A) (x : A) (rest : Result (List A) WordFault)
-    → behind all (rest >>= λ xs. Ok (x ∷ xs)) ≡ behind (all ++ x ∷ []) rest
-word_and_rest all x (Ok xs) = ap (λ ys. Ok ys) (sym (append_assoc all (x ∷ []) xs))
-word_and_rest all x (Err e) = refl
 
 module _ {A : Type 0} (read : Reader A) (ws : List (Bor (List ℕ))) where
   -- what the words from this place on give
@@ -38,17 +25,14 @@ module _ {A : Type 0} (read : Reader A) (ws : List (Bor (List ℕ))) where
 
   pub each_more : (i : ℕ) (w : Bor (List ℕ)) (all : List A) (x : A) (whole : Result (List A) WordFault)
       → i < length ws → w ≡ get_or ws i w → read w.now ≡ Ok x → whole ≡ behind all (from i) → whole ≡ behind (all ++ x ∷ []) (from (i + 1))
-  each_more i w all x whole lt is gives so_far =
-      so_far ∙ ap (λ r. behind all r) (from_step i w lt is ∙ ap (λ r. with_rest (from (i + 1)) r) gives) ∙ word_and_rest all x (from (i + 1))
+  each_more i w all x whole lt is = rest_more all x (read w.now) whole (from i) (from (i + 1)) (from_step i w lt is)
 
   pub each_stop : (i : ℕ) (w : Bor (List ℕ)) (all : List A) (e : WordFault) (whole : Result (List A) WordFault)
       → i < length ws → w ≡ get_or ws i w → read w.now ≡ Err e → whole ≡ behind all (from i) → whole ≡ Err e
-  each_stop i w all e whole lt is gives so_far =
-      so_far ∙ ap (λ r. behind all r) (from_step i w lt is ∙ ap (λ r. with_rest (from (i + 1)) r) gives)
+  each_stop i w all e whole lt is = rest_stop all e (read w.now) whole (from i) (from (i + 1)) (from_step i w lt is)
 
   pub each_done : (i : ℕ) (all : List A) (whole : Result (List A) WordFault) → length ws ≤ i → whole ≡ behind all (from i) → whole ≡ Ok all
-  each_done i all whole le so_far =
-      so_far ∙ ap (λ t. behind all (each read (map (λ v. v.now) t))) (drop_all i ws le) ∙ ap (λ ys. Ok ys) (append-nil all)
+  each_done i all whole le = rest_done all whole (from i) (ap (λ t. each read (map (λ v. v.now) t)) (drop_all i ws le))
 
 -- ---- the last mark
 

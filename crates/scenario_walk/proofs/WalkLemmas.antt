@@ -1,5 +1,5 @@
 -- The walk's names in order, and its lists item by item.
-use Rattle.std.proofs.Common.{◌≡◌, ℕ, ◌+◌, ◌<◌, ◌≤◌, List, [], ◌∷◌, ◌++◌, Bool, true, false, ◌||◌, not, Option, Some, Result, Ok, Err, option_map, String, string_bytes, decimal, find, cond, map, length, take, drop, get_or, append_assoc, append-nil, if◌then◌else◌, refl, ap, sym, ◌∙◌, arith}
+use Rattle.std.proofs.Common.{◌≡◌, ℕ, ◌+◌, ◌<◌, ◌≤◌, List, [], ◌∷◌, ◌++◌, Bool, true, false, ◌||◌, not, Option, Some, Result, Ok, Err, option_map, String, string_bytes, decimal, find, cond, map, length, take, drop, get_or, if◌then◌else◌, refl, ap, sym, ◌∙◌, arith}
 use Rattle.std.specs.declared.alloc.Global.{Global}
 use Rattle.std.specs.List.{list_any}
 use Rattle.std.specs.Map.{keys_of}
@@ -7,7 +7,7 @@ use Rattle.std.proofs.lemmas.List.{drop_more, drop_all, map_more, length-map, le
 use Rattle.serde_json.specs.declared.value.Value.{Value}
 use Rattle.serde_json.specs.Data.{Data}
 use Rattle.serde_json.specs.View.{view, items_of, members_view}
-use Rattle.net_base.specs.Results.{◌>>=◌}
+use Rattle.net_base.proofs.Rests.{behind, with_rest, rest_more, rest_stop, rest_done}
 use Rattle.scenario_walk.specs.Faults.{Reader, first_unknown, is_among, each_behind, below, list_of}
 use Rattle.scenario_walk.specs.declared.fault.ScenarioFault.{ScenarioFault}
 
@@ -35,19 +35,6 @@ pub list_of_items_of : (ds : List Data) → list_of (items_of ds) ≡ ds
 list_of_items_of [] = refl
 list_of_items_of (d ∷ ds) = ap (λ es. d ∷ es) (list_of_items_of ds)
 
--- what an item gives, in front of what the rest gives
-abbrev with_rest : {A : Type 0} → Result (List A) ScenarioFault → Result A ScenarioFault → Result (List A) ScenarioFault
-with_rest rest here = here >>= λ x. rest >>= λ xs. Ok (x ∷ xs)
-
--- what the items so far gave, in front of what the rest gives
-abbrev pub behind : {A : Type 0} → List A → Result (List A) ScenarioFault → Result (List A) ScenarioFault
-behind all rest = rest >>= λ xs. Ok (all ++ xs)
-
-item_and_rest : {A : Type 0} (all : List A) (x : A) (rest : Result (List A) ScenarioFault)
-    → behind all (rest >>= λ xs. Ok (x ∷ xs)) ≡ behind (all ++ x ∷ []) rest
-item_and_rest all x (Ok xs) = ap (λ ys. Ok ys) (sym (append_assoc all (x ∷ []) xs))
-item_and_rest all x (Err e) = refl
-
 module _ {A : Type 0} (read : List Data → Reader A) (path : List ℕ) (vs : List Value) where
   -- what the items from this place on give
   abbrev pub from : ℕ → Result (List A) ScenarioFault
@@ -69,14 +56,11 @@ module _ {A : Type 0} (read : List Data → Reader A) (path : List ℕ) (vs : Li
 
   pub each_more : (i : ℕ) (v : Value) (all : List A) (x : A) (whole : Result (List A) ScenarioFault)
       → i < length vs → v ≡ get_or vs i v → item_at i v ≡ Ok x → whole ≡ behind all (from i) → whole ≡ behind (all ++ x ∷ []) (from (i + 1))
-  each_more i v all x whole lt is gives so_far =
-      so_far ∙ ap (λ r. behind all r) (from_step i v lt is ∙ ap (λ r. with_rest (from (i + 1)) r) gives) ∙ item_and_rest all x (from (i + 1))
+  each_more i v all x whole lt is = rest_more all x (item_at i v) whole (from i) (from (i + 1)) (from_step i v lt is)
 
   pub each_stop : (i : ℕ) (v : Value) (all : List A) (e : ScenarioFault) (whole : Result (List A) ScenarioFault)
       → i < length vs → v ≡ get_or vs i v → item_at i v ≡ Err e → whole ≡ behind all (from i) → whole ≡ Err e
-  each_stop i v all e whole lt is gives so_far =
-      so_far ∙ ap (λ r. behind all r) (from_step i v lt is ∙ ap (λ r. with_rest (from (i + 1)) r) gives)
+  each_stop i v all e whole lt is = rest_stop all e (item_at i v) whole (from i) (from (i + 1)) (from_step i v lt is)
 
   pub each_done : (i : ℕ) (all : List A) (whole : Result (List A) ScenarioFault) → length vs ≤ i → whole ≡ behind all (from i) → whole ≡ Ok all
-  each_done i all whole le so_far =
-      so_far ∙ ap (λ t. behind all (each_behind read path (map view (take i vs)) (map view t))) (drop_all i vs le) ∙ ap (λ ys. Ok ys) (append-nil all)
+  each_done i all whole le = rest_done all whole (from i) (ap (λ t. each_behind read path (map view (take i vs)) (map view t)) (drop_all i vs le))

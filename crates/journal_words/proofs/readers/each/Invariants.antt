@@ -1,6 +1,7 @@
 use Rattle.std.proofs.Common.{◌≡◌, map}
+use Rattle.net_base.proofs.Rests.{behind}
 use Rattle.journal_words.specs.Readers.{each}
-use Rattle.journal_words.proofs.ReaderLemmas.{behind, from}
+use Rattle.journal_words.proofs.ReaderLemmas.{from}
 use Rattle.journal_words.proofs.readers.each.Given as goal
 
 abbrev pub invariant-loop-word : goal.invariant-loop-word

@@ -1,7 +1,8 @@
 use Rattle.std.proofs.Common.{◌≡◌, ◌+◌, ◌<◌, length, Ok, ap, sym, ◌∙◌, arith}
+use Rattle.net_base.proofs.Rests.{behind}
 use Rattle.scenario_text.specs.Calls.{script_call}
 use Rattle.scenario_text.proofs.CallLemmas.{call_at, submits_more}
-use Rattle.scenario_walk.proofs.WalkLemmas.{behind, each_more, from, item_at}
+use Rattle.scenario_walk.proofs.WalkLemmas.{each_more, from, item_at}
 use Rattle.scenario_text.proofs.calls.each_call.Goals as goal
 
 pub loop-place-preserved : goal.loop-place-preserved

@@ -1,8 +1,9 @@
 use Rattle.std.proofs.Common.{◌≡◌, ℕ, List, [], map, take, Result}
 use Rattle.serde_json.specs.View.{view}
+use Rattle.net_base.proofs.Rests.{behind}
 use Rattle.scenario_text.specs.Calls.{count_submits, script_call}
 use Rattle.scenario_walk.specs.Faults.{each_behind}
-use Rattle.scenario_walk.proofs.WalkLemmas.{behind, from}
+use Rattle.scenario_walk.proofs.WalkLemmas.{from}
 use Rattle.scenario_text.proofs.calls.each_call.Given as goal
 
 abbrev pub invariant-loop-place : goal.invariant-loop-place
