@@ -7,9 +7,10 @@ ghost use Rattle.partition_keys.specs.Sites.{IsSite};
 ghost use Rattle.journal_words.specs.Writable as words;
 ghost use Rattle.journal_lines.specs.Writable as spec;
 
-use http_header::is_token;
 use model_values::{Act, Entry, Report};
-use net_base::{Field, Fields, Names, NoMem, PlainValue, Request, Response, is_name};
+use net_base::{
+    Field, Fields, Names, NoMem, PlainValue, Request, Response, is_name, is_token_text,
+};
 use partition_keys::{
     AltUpdate, Alternative, Alternatives, PartitionKey, Site, SiteFault, read_site, write_site,
 };
@@ -35,12 +36,6 @@ fn are_above_space(text: &[u8]) -> bool
     ensures { result ≡ list_all (λ b. nat_lt 32 b) text.now }
 {
     text.iter().all(|b| *b > b' ')
-}
-
-fn is_token_text(text: &[u8]) -> bool
-    ensures { result ≡ requests.is_token text.now }
-{
-    is_token(text)
 }
 
 fn are_named(fields: &Fields) -> bool

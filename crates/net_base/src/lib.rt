@@ -30,7 +30,7 @@ pub use numbers::{CallerNo, ConnNo, ExchangeNo, Moment, StreamList, StreamNo};
 pub use origin::{Origin, Scheme, authority};
 pub use peer::{ActKind, Answer, AnswerBody, Answers, Peer, PeerAct, PeerActs, PeerBook};
 pub use plain_values::{Listed, NoMem, Octets, PlainValue};
-pub use request::{BuildFault, Request, is_field};
+pub use request::{BuildFault, Request, is_field, is_token_text};
 pub use response::Response;
 pub use target::{Proto, Target, Via};
 

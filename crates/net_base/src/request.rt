@@ -140,7 +140,8 @@ fn is_forbidden_method(method: &[u8]) -> bool
         || is_in_any_case(method, "track")
 }
 
-fn is_token_text(text: &[u8]) -> bool
+/// Whether the text is a token (RFC 9110, section 5.6.2).
+pub fn is_token_text(text: &[u8]) -> bool
     ensures { result ≡ spec.is_token text.now }
 {
     is_token(text)
