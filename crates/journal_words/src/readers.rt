@@ -1,6 +1,5 @@
 // Words read back.
-ghost use Rattle.std.specs.Prelude.{◌≡◌, ◌≤◌, ◌<◌, ◌^◌, ℕ, true, false, map, length, codes, Some, IfOk, IfErr, IfSome, IsUtf8};
-ghost use Rattle.std.specs.Fmt.{decimal};
+ghost use Rattle.std.specs.Prelude.{◌≡◌, ◌≤◌, ◌<◌, true, false, map, length, codes, IfOk, IfErr, IfSome, IsUtf8};
 ghost use Rattle.partition_keys.specs.Sites.{site_of};
 ghost use Rattle.journal_words.specs.Readers as spec;
 ghost use Rattle.journal_words.specs.Readers.{Gives};
@@ -11,7 +10,7 @@ use hex::{FromHex, FromHexError};
 use model_values::Way;
 use net_base::{
     Addresses, EndCause, Field, Fields, Listed, Moment, Names, Octets, Origin, Proto, Scheme,
-    StreamList, StreamNo, Target, Via,
+    StreamList, StreamNo, Target, Via, number_in,
 };
 use partition_keys::{
     AltUpdate, Alternative, Alternatives, PartitionKey, Proof, SiteFault, Why, read_site,
@@ -99,16 +98,6 @@ pub fn read_number(alloc: Global, word: &[u8], most: u64) -> Result<u64, WordFau
         return Err(WordFault::Unreadable);
     }
     Ok(n)
-}
-
-/// The number that the text is read as: of each number's decimal, that number.
-fn number_in(word: &[u8]) -> Option<u64>
-    ensures { (n : ℕ) → n < 2 ^ 64 → word.now ≡ decimal n → result ≡ Some n }
-{
-    match std::str::from_utf8(word) {
-        Ok(text) => text.parse::<u64>().ok(),
-        Err(_) => None,
-    }
 }
 
 pub fn read_u64(alloc: Global, word: &[u8]) -> Result<u64, WordFault>

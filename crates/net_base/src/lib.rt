@@ -26,7 +26,7 @@ pub use field::{Field, Fields};
 pub use host::is_plain_host;
 pub use identity::{Addresses, Identity, IdentityFault, Names, is_name};
 pub use method::is_idempotent;
-pub use numbers::{CallerNo, ConnNo, ExchangeNo, Moment, StreamList, StreamNo};
+pub use numbers::{CallerNo, ConnNo, ExchangeNo, Moment, StreamList, StreamNo, number_in};
 pub use origin::{Origin, Scheme, authority};
 pub use peer::{ActKind, Answer, AnswerBody, Answers, Peer, PeerAct, PeerActs, PeerBook};
 pub use plain_values::{Listed, NoMem, Octets, PlainValue};

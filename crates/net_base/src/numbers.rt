@@ -1,4 +1,6 @@
-// Numbers that must not be mixed.
+// Numbers that must not be mixed, and numbers in decimal.
+ghost use Rattle.std.specs.Prelude.{◌≡◌, ◌<◌, ◌^◌, ℕ, Some};
+ghost use Rattle.std.specs.Fmt.{decimal};
 
 use plain_values::{Listed, NoMem, PlainValue};
 use std::alloc::Global;
@@ -73,5 +75,15 @@ impl PlainValue for Moment {
 
     fn same(&self, other: &Moment) -> bool {
         self.0 == other.0
+    }
+}
+
+/// The number that the text is read as: of each number's decimal, that number. Other texts may be read as a number too.
+pub fn number_in(text: &[u8]) -> Option<u64>
+    ensures { (n : ℕ) → n < 2 ^ 64 → text.now ≡ decimal n → result ≡ Some n }
+{
+    match std::str::from_utf8(text) {
+        Ok(text) => text.parse::<u64>().ok(),
+        Err(_) => None,
     }
 }

@@ -5,7 +5,7 @@ ghost use Rattle.net_base.specs.Origins.{scheme_text};
 ghost use Rattle.partition_keys.specs.Sites as spec;
 ghost use Rattle.partition_keys.specs.Sites.{IsSiteHost, IsSiteText, RefusesSite, site_of};
 
-use net_base::{NoMem, Octets, PlainValue, Scheme, is_plain_host};
+use net_base::{NoMem, Octets, PlainValue, Scheme, is_plain_host, number_in};
 use std::alloc::Global;
 
 /// A site (HTML Standard, section 7.1.1): a scheme with a host, which the caller has cut to its registrable domain,
@@ -127,7 +127,7 @@ fn is_site_host(alloc: Global, host: &[u8]) -> Result<bool, NoMem>
 fn opaque_site(alloc: Global, digits: &[u8]) -> Result<Option<Site>, NoMem>
     ensures { IfOk result (λ site. MatchOption site ((n : ℕ) → n < 2 ^ 64 → digits.now ≢ decimal n) (λ s. (n : ℕ) × (n < 2 ^ 64) × (digits.now ≡ decimal n) × (s ≡ Site.Opaque n))) }
 {
-    let Some(number) = number_of(digits) else {
+    let Some(number) = number_in(digits) else {
         return Ok(None);
     };
     let written = format!(in alloc; "{number}")?;
@@ -135,16 +135,6 @@ fn opaque_site(alloc: Global, digits: &[u8]) -> Result<Option<Site>, NoMem>
         return Ok(None);
     }
     Ok(Some(Site::Opaque(number)))
-}
-
-/// The number that the text is read as: of each number's decimal, that number.
-fn number_of(digits: &[u8]) -> Option<u64>
-    ensures { (n : ℕ) → n < 2 ^ 64 → digits.now ≡ decimal n → result ≡ Some n }
-{
-    match std::str::from_utf8(digits) {
-        Ok(text) => text.parse::<u64>().ok(),
-        Err(_) => None,
-    }
 }
 
 /// Writes the one text of a site: the scheme, `://` and the host, or `opaque:` and the number in decimal.
