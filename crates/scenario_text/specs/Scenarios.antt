@@ -1,9 +1,8 @@
 -- Scenarios: the walk over the whole value, and what is tested behind it.
-use Rattle.std.specs.Prelude.{◌≡◌, ◌⊎◌, ℕ, List, [], ◌∷◌, ◌+◌, ◌*◌, max, nat_le, Bool, true, false, codes, length, count_by, sum_by, Result, Ok, Err, if◌then◌else◌}
+use Rattle.std.specs.Prelude.{◌≡◌, ◌⊎◌, ℕ, List, [], ◌∷◌, ◌+◌, ◌*◌, max, nat_le, Bool, true, false, codes, length, count_by, fold, sum_by, Result, Ok, Err, if◌then◌else◌}
 use Rattle.serde_json.specs.Data.{Data}
 use Rattle.edge_traits.specs.declared.dialer.NetKind.TheVariants.{Inner}
 use Rattle.net_base.specs.Results.{◌>>=◌, ◌>>◌}
-use Rattle.net_base.specs.declared.peer.Answer.{Answer}
 use Rattle.net_base.specs.declared.peer.AnswerBody.{AnswerBody}
 use Rattle.net_base.specs.declared.peer.AnswerBody.TheVariants.{Text, Size}
 use Rattle.net_base.specs.declared.peer.Peer.{Peer}
@@ -73,14 +72,13 @@ abbrev pub body_length : AnswerBody → ℕ
 body_length (Text octets) = length octets
 body_length (Size n) = n
 
--- the length of the largest scripted answer body, 0 where there is none
-abbrev pub largest : List Answer → ℕ
-largest [] = 0
-largest (a ∷ answers) = max (body_length a.body) (largest answers)
+-- the largest size, 0 where there is nothing
+abbrev pub largest : {A : Type 0} → (A → ℕ) → List A → ℕ
+largest size xs = fold (λ most x. max most (size x)) 0 xs
 
+-- the length of the largest scripted answer body
 abbrev pub largest_body : List Peer → ℕ
-largest_body [] = 0
-largest_body (p ∷ peers) = max (largest p.answers) (largest_body peers)
+largest_body peers = largest (λ p. largest (λ a. body_length a.body) p.answers) peers
 
 abbrev pub request_octets : ScriptCall → ℕ
 request_octets (Submit ask) = length ask.request.body

@@ -225,26 +225,24 @@ fn is_submission(call: &ScriptCall) -> bool
 }
 
 /// The length of the largest scripted answer body, 0 where there is none.
-#[tactic(auto, using(crate::proofs::ScenarioLemmas::largest_body_more, crate::proofs::ScenarioLemmas::largest_body_done))]
 fn largest_body(peers: &[Peer]) -> u64
     ensures { result ≡ spec.largest_body peers.now }
 {
-    let mut most = 0;
-    for peer in peers {
-        most = most.max(largest(peer.answers.as_slice()));
-    }
-    most
+    peers
+        .iter()
+        .map(|p| largest(p.answers.as_slice()))
+        .max()
+        .unwrap_or(0)
 }
 
-#[tactic(auto, using(crate::proofs::ScenarioLemmas::largest_more, crate::proofs::ScenarioLemmas::largest_done))]
 fn largest(answers: &[Answer]) -> u64
-    ensures { result ≡ spec.largest answers.now }
+    ensures { result ≡ spec.largest (λ a. spec.body_length a.body) answers.now }
 {
-    let mut most = 0;
-    for answer in answers {
-        most = most.max(body_length(&answer.body));
-    }
-    most
+    answers
+        .iter()
+        .map(|a| body_length(&a.body))
+        .max()
+        .unwrap_or(0)
 }
 
 fn body_length(body: &AnswerBody) -> u64
