@@ -17,7 +17,7 @@ use partition_keys::PartitionKey;
 use std::alloc::Global;
 
 /// The number of an exchange.
-pub fn read_exchange(alloc: Global, word: &[u8]) -> Result<ExchangeNo, WordFault>
+pub(crate) fn read_exchange(alloc: Global, word: &[u8]) -> Result<ExchangeNo, WordFault>
     ensures { Gives result (spec.exchange word.now) }
 {
     Ok(ExchangeNo(read_u64(alloc, word)?))
@@ -151,7 +151,7 @@ fn on_terms(terms: Terms, request: Request) -> Submission
     }
 }
 
-pub fn read_submit(alloc: Global, words: &[&[u8]]) -> Result<Act, WordFault>
+pub(crate) fn read_submit(alloc: Global, words: &[&[u8]]) -> Result<Act, WordFault>
     ensures { Gives result (spec.submit (map (λ w. w.now) words.now)) }
 {
     let (request, reply) = read_asked(alloc, behind_six(words))?;
@@ -171,7 +171,7 @@ fn behind_six<'a, 'w>(words: &'a [&'w [u8]]) -> &'a [&'w [u8]]
     }
 }
 
-pub fn read_cancel(alloc: Global, words: &[&[u8]]) -> Result<Act, WordFault>
+pub(crate) fn read_cancel(alloc: Global, words: &[&[u8]]) -> Result<Act, WordFault>
     ensures { Gives result (spec.cancel (map (λ w. w.now) words.now)) }
 {
     let [exchange, _, reply] = words else {
@@ -183,7 +183,7 @@ pub fn read_cancel(alloc: Global, words: &[&[u8]]) -> Result<Act, WordFault>
     })
 }
 
-pub fn read_reprioritise(alloc: Global, words: &[&[u8]]) -> Result<Act, WordFault>
+pub(crate) fn read_reprioritise(alloc: Global, words: &[&[u8]]) -> Result<Act, WordFault>
     ensures { Gives result (spec.reprioritise (map (λ w. w.now) words.now)) }
 {
     let [exchange, urgency, _, reply] = words else {
@@ -196,7 +196,7 @@ pub fn read_reprioritise(alloc: Global, words: &[&[u8]]) -> Result<Act, WordFaul
     })
 }
 
-pub fn read_preconnect(alloc: Global, words: &[&[u8]]) -> Result<Act, WordFault>
+pub(crate) fn read_preconnect(alloc: Global, words: &[&[u8]]) -> Result<Act, WordFault>
     ensures { Gives result (spec.preconnect (map (λ w. w.now) words.now)) }
 {
     let [site, credentials, origin, count, _, reply @ ..] = words else {
@@ -211,7 +211,7 @@ pub fn read_preconnect(alloc: Global, words: &[&[u8]]) -> Result<Act, WordFault>
     })
 }
 
-pub fn read_resolved(alloc: Global, words: &[&[u8]]) -> Result<Act, WordFault>
+pub(crate) fn read_resolved(alloc: Global, words: &[&[u8]]) -> Result<Act, WordFault>
     ensures { Gives result (spec.resolved_at (map (λ w. w.now) words.now)) }
 {
     let [site, host, addresses, _, reply @ ..] = words else {
@@ -225,7 +225,7 @@ pub fn read_resolved(alloc: Global, words: &[&[u8]]) -> Result<Act, WordFault>
     })
 }
 
-pub fn read_shutdown(alloc: Global, words: &[&[u8]]) -> Result<Act, WordFault>
+pub(crate) fn read_shutdown(alloc: Global, words: &[&[u8]]) -> Result<Act, WordFault>
     ensures { Gives result (spec.shutdown (map (λ w. w.now) words.now)) }
 {
     match words {

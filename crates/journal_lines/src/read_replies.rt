@@ -11,7 +11,7 @@ use net_base::ExchangeNo;
 use std::alloc::Global;
 
 /// The reply to a submission.
-pub fn read_submit_reply(alloc: Global, words: &[&[u8]]) -> Result<SubmitReply, WordFault>
+pub(crate) fn read_submit_reply(alloc: Global, words: &[&[u8]]) -> Result<SubmitReply, WordFault>
     ensures { Gives result (spec.submit_reply (map (λ w. w.now) words.now)) }
 {
     match words {
@@ -49,7 +49,7 @@ fn submit_reply_at(word: &[u8], n: u64) -> Result<SubmitReply, WordFault>
 }
 
 /// The reply to a cancel.
-pub fn read_cancel_reply(word: &[u8]) -> Result<CancelReply, WordFault>
+pub(crate) fn read_cancel_reply(word: &[u8]) -> Result<CancelReply, WordFault>
     ensures gives { Gives result (spec.cancel_reply word.now) }
     ensures no_memory { IfErr result (λ e. e ≡ WordFault.Unreadable) }
 {
@@ -65,7 +65,7 @@ pub fn read_cancel_reply(word: &[u8]) -> Result<CancelReply, WordFault>
 }
 
 /// The reply to a change of the urgency.
-pub fn read_change_reply(word: &[u8]) -> Result<ChangeReply, WordFault>
+pub(crate) fn read_change_reply(word: &[u8]) -> Result<ChangeReply, WordFault>
     ensures gives { Gives result (spec.change_reply word.now) }
     ensures no_memory { IfErr result (λ e. e ≡ WordFault.Unreadable) }
 {
@@ -81,7 +81,10 @@ pub fn read_change_reply(word: &[u8]) -> Result<ChangeReply, WordFault>
 }
 
 /// The reply to a preconnect.
-pub fn read_preconnect_reply(alloc: Global, words: &[&[u8]]) -> Result<PreconnectReply, WordFault>
+pub(crate) fn read_preconnect_reply(
+    alloc: Global,
+    words: &[&[u8]],
+) -> Result<PreconnectReply, WordFault>
     ensures { Gives result (spec.preconnect_reply (map (λ w. w.now) words.now)) }
 {
     match words {
@@ -111,7 +114,10 @@ fn preconnect_reply_at(
 }
 
 /// The reply to the addresses of a host.
-pub fn read_resolved_reply(alloc: Global, words: &[&[u8]]) -> Result<ResolvedReply, WordFault>
+pub(crate) fn read_resolved_reply(
+    alloc: Global,
+    words: &[&[u8]],
+) -> Result<ResolvedReply, WordFault>
     ensures { Gives result (spec.resolved_reply (map (λ w. w.now) words.now)) }
 {
     match words {
@@ -137,7 +143,7 @@ fn resolved_reply_at(word: &[u8], n: u64) -> Result<ResolvedReply, WordFault>
 }
 
 /// The reply to a shutdown.
-pub fn read_shut_reply(alloc: Global, words: &[&[u8]]) -> Result<ShutReply, WordFault>
+pub(crate) fn read_shut_reply(alloc: Global, words: &[&[u8]]) -> Result<ShutReply, WordFault>
     ensures { Gives result (spec.shut_reply (map (λ w. w.now) words.now)) }
 {
     match words {

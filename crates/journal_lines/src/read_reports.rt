@@ -13,7 +13,7 @@ use std::alloc::Global;
 
 /// A report by its name.
 #[tactic(auto, unfolding(crate::specs::LineReaders::report_at))]
-pub fn read_report(alloc: Global, name: &[u8], words: &[&[u8]]) -> Result<Report, WordFault>
+pub(crate) fn read_report(alloc: Global, name: &[u8], words: &[&[u8]]) -> Result<Report, WordFault>
     ensures { Gives result (spec.report_at name.now (map (λ w. w.now) words.now)) }
 {
     if name == b"opened".as_slice() {

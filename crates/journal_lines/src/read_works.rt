@@ -20,7 +20,7 @@ fn read_conn(alloc: Global, word: &[u8]) -> Result<ConnNo, WordFault>
     Ok(ConnNo(read_u32(alloc, word)?))
 }
 
-pub fn read_dial(alloc: Global, words: &[&[u8]]) -> Result<Act, WordFault>
+pub(crate) fn read_dial(alloc: Global, words: &[&[u8]]) -> Result<Act, WordFault>
     ensures { Gives result (spec.dial (map (λ w. w.now) words.now)) }
 {
     let [_, _, conn, target @ ..] = words else {
@@ -104,7 +104,7 @@ fn read_order_marks(alloc: Global, words: &[&[u8]]) -> Result<OrderMarks, WordFa
     Ok(marks)
 }
 
-pub fn read_orders(alloc: Global, words: &[&[u8]]) -> Result<Act, WordFault>
+pub(crate) fn read_orders(alloc: Global, words: &[&[u8]]) -> Result<Act, WordFault>
     ensures { Gives result (spec.orders (map (λ w. w.now) words.now)) }
 {
     let [conn, sent, _, orders @ ..] = words else {
@@ -117,7 +117,7 @@ pub fn read_orders(alloc: Global, words: &[&[u8]]) -> Result<Act, WordFault>
     })
 }
 
-pub fn read_closed(alloc: Global, words: &[&[u8]]) -> Result<Act, WordFault>
+pub(crate) fn read_closed(alloc: Global, words: &[&[u8]]) -> Result<Act, WordFault>
     ensures { Gives result (spec.closed (map (λ w. w.now) words.now)) }
 {
     let [conn, sent, cause, heard] = words else {
@@ -132,7 +132,7 @@ pub fn read_closed(alloc: Global, words: &[&[u8]]) -> Result<Act, WordFault>
 }
 
 /// A report by its name.
-pub fn read_reported(alloc: Global, name: &[u8], words: &[&[u8]]) -> Result<Act, WordFault>
+pub(crate) fn read_reported(alloc: Global, name: &[u8], words: &[&[u8]]) -> Result<Act, WordFault>
     ensures { Gives result (spec.reported name.now (map (λ w. w.now) words.now)) }
 {
     let [conn, sent, report @ ..] = words else {
@@ -145,7 +145,7 @@ pub fn read_reported(alloc: Global, name: &[u8], words: &[&[u8]]) -> Result<Act,
     })
 }
 
-pub fn read_expire(alloc: Global, words: &[&[u8]]) -> Result<Act, WordFault>
+pub(crate) fn read_expire(alloc: Global, words: &[&[u8]]) -> Result<Act, WordFault>
     ensures { Gives result (spec.expire (map (λ w. w.now) words.now)) }
 {
     match words {
@@ -154,7 +154,7 @@ pub fn read_expire(alloc: Global, words: &[&[u8]]) -> Result<Act, WordFault>
     }
 }
 
-pub fn read_lapse(alloc: Global, words: &[&[u8]]) -> Result<Act, WordFault>
+pub(crate) fn read_lapse(alloc: Global, words: &[&[u8]]) -> Result<Act, WordFault>
     ensures { Gives result (spec.lapse (map (λ w. w.now) words.now)) }
 {
     match words {
@@ -163,7 +163,7 @@ pub fn read_lapse(alloc: Global, words: &[&[u8]]) -> Result<Act, WordFault>
     }
 }
 
-pub fn read_assign(alloc: Global, words: &[&[u8]]) -> Result<Act, WordFault>
+pub(crate) fn read_assign(alloc: Global, words: &[&[u8]]) -> Result<Act, WordFault>
     ensures { Gives result (spec.assign (map (λ w. w.now) words.now)) }
 {
     let [exchange, conn, stream, way] = words else {
@@ -177,7 +177,7 @@ pub fn read_assign(alloc: Global, words: &[&[u8]]) -> Result<Act, WordFault>
     })
 }
 
-pub fn read_want(alloc: Global, words: &[&[u8]]) -> Result<Act, WordFault>
+pub(crate) fn read_want(alloc: Global, words: &[&[u8]]) -> Result<Act, WordFault>
     ensures { Gives result (spec.want (map (λ w. w.now) words.now)) }
 {
     let [exchange, conn, target @ ..] = words else {
@@ -190,7 +190,7 @@ pub fn read_want(alloc: Global, words: &[&[u8]]) -> Result<Act, WordFault>
     })
 }
 
-pub fn read_evict(alloc: Global, words: &[&[u8]]) -> Result<Act, WordFault>
+pub(crate) fn read_evict(alloc: Global, words: &[&[u8]]) -> Result<Act, WordFault>
     ensures { Gives result (spec.evict (map (λ w. w.now) words.now)) }
 {
     match words {

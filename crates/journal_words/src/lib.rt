@@ -15,14 +15,13 @@ mod word_laws;
 pub use faults::WordFault;
 pub use line::{put, put_alt, put_number, put_proof, put_target};
 pub use readers::{
-    ReadsWord, parts, read_address, read_addresses, read_alt, read_cause, read_credentials,
-    read_deadline, read_either, read_fields, read_key, read_list, read_moment, read_names,
-    read_number, read_octets, read_origin_word, read_proof, read_proto, read_security, read_stream,
-    read_streams, read_target, read_u8, read_u16, read_u32, read_u64, read_way,
+    parts, read_address, read_addresses, read_alt, read_cause, read_credentials, read_deadline,
+    read_either, read_fields, read_key, read_moment, read_names, read_octets, read_origin_word,
+    read_proof, read_proto, read_security, read_stream, read_streams, read_target, read_u8,
+    read_u16, read_u32, read_u64, read_way,
 };
 pub use texts::{
-    addresses_text, alternatives_text, cause_text, condition_text, credentials_text, deadline_text,
-    fields_text, hex_text, host_and_port, list_text, number_text, octets_text, origin_text,
-    proto_text, security_text, streams_text, via_text, way_text,
+    addresses_text, cause_text, credentials_text, deadline_text, fields_text, hex_text, list_text,
+    number_text, octets_text, origin_text, proto_text, security_text, streams_text, way_text,
 };
 pub use word_laws::{choices_are_read_back, numbers_are_read_back, parts_are_read_back};

@@ -18,7 +18,7 @@ use partition_keys::{
 use std::alloc::{AllocError, Global};
 
 /// How a word is read.
-pub trait ReadsWord<T> {
+trait ReadsWord<T> {
     ghost use Rattle.std.specs.Prelude.{ℕ, List};
     ghost use Rattle.journal_words.specs.Readers.{Reader};
 
@@ -55,7 +55,7 @@ fn each<T: Drop, R: ReadsWord<T>>(
 }
 
 /// What commas part, read like this; `-` where there is nothing.
-pub fn read_list<T: Drop, R: ReadsWord<T>>(
+fn read_list<T: Drop, R: ReadsWord<T>>(
     alloc: Global,
     word: &[u8],
     reader: &R,
@@ -86,7 +86,7 @@ fn last_place(text: &[u8], mark: u8) -> Option<usize>
 // ---- numbers and octets
 
 /// The number, at most so large, whose decimal it is.
-pub fn read_number(alloc: Global, word: &[u8], most: u64) -> Result<u64, WordFault>
+fn read_number(alloc: Global, word: &[u8], most: u64) -> Result<u64, WordFault>
     ensures gives { Gives result (spec.number most word.now) }
     ensures within { IfOk result (λ n. n ≤ most) }
 {

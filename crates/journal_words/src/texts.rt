@@ -82,7 +82,7 @@ fn field_texts(alloc: Global, fields: &[Field]) -> Result<Listed<Octets>, NoMem>
 }
 
 /// HOST:PORT.
-pub fn host_and_port(alloc: Global, host: &Octets, port: u16) -> Result<Octets, NoMem>
+pub(crate) fn host_and_port(alloc: Global, host: &Octets, port: u16) -> Result<Octets, NoMem>
     ensures { IfOk result (λ text. text ≡ spec.host_and_port host.now port) }
 {
     let mut text = Octets::build(alloc, host.as_slice())?;
@@ -143,7 +143,7 @@ pub fn way_text(way: Way) -> &'static str
 }
 
 /// The origin itself, or an alternative by its protocol.
-pub fn via_text(via: Via) -> &'static str
+pub(crate) fn via_text(via: Via) -> &'static str
     ensures { result.now ≡ spec.via_text via }
 {
     match via {
@@ -153,7 +153,7 @@ pub fn via_text(via: Via) -> &'static str
 }
 
 /// Which condition failed (RFC 8164, section 2.3).
-pub fn condition_text(why: Why) -> &'static str
+pub(crate) fn condition_text(why: Why) -> &'static str
     ensures { result.now ≡ spec.condition_text why }
 {
     match why {
@@ -256,7 +256,7 @@ fn alternative_texts(alloc: Global, list: &[Alternative]) -> Result<Listed<Octet
 }
 
 /// Alternatives, each as PROTO/HOST/PORT/EXPIRES/PERSIST, `-` where there are none.
-pub fn alternatives_text(alloc: Global, list: &Alternatives) -> Result<Octets, NoMem>
+pub(crate) fn alternatives_text(alloc: Global, list: &Alternatives) -> Result<Octets, NoMem>
     ensures { IfOk result (λ text. text ≡ spec.alternatives_text list.now) }
 {
     let texts = alternative_texts(alloc, list.as_slice())?;

@@ -17,8 +17,8 @@ pub use values::{
     TextWithin, Whole, text_of,
 };
 pub use walk::{
-    AnyListOf, At, Given, ListOf, Reads, an_object, any_items, bad, below, below_item, is_among,
-    items, only, optional, required, too_many,
+    AnyListOf, At, Given, ListOf, Reads, an_object, bad, below, below_item, is_among, items, only,
+    optional, required, too_many,
 };
 
 #[cfg(test)]

@@ -194,7 +194,7 @@ pub fn optional<T: Drop, R: Reads<T>>(
 
 /// The items of a list of any length.
 #[tactic(auto, using(crate::proofs::WalkLemmas::list_of_items_of))]
-pub fn any_items<'v>(alloc: Global, at: &At<'v>) -> Result<&'v [Value], ScenarioFault>
+pub(crate) fn any_items<'v>(alloc: Global, at: &At<'v>) -> Result<&'v [Value], ScenarioFault>
     ensures { GivesItems result (spec.any_items at.now.path (view at.now.value.now)) }
 {
     match at.value.as_array() {
