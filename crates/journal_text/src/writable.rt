@@ -9,7 +9,7 @@ ghost use Rattle.journal_lines.specs.Writable as spec;
 
 use model_values::{Act, Entry, Report};
 use net_base::{
-    Field, Fields, Names, NoMem, PlainValue, Request, Response, is_name, is_token_text,
+    Field, Fields, MOST_NAMES, Names, NoMem, PlainValue, Request, Response, is_name, is_token_text,
 };
 use partition_keys::{
     AltUpdate, Alternative, Alternatives, PartitionKey, Site, SiteFault, read_site, write_site,
@@ -53,7 +53,7 @@ fn has_token(field: &Field) -> bool
 fn are_names(names: &Names) -> bool
     ensures { result ≡ words.are_names names.now }
 {
-    names.len() <= 100 && are_all_names(names)
+    names.len() <= MOST_NAMES && are_all_names(names)
 }
 
 fn are_all_names(names: &Names) -> bool

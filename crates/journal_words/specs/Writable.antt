@@ -2,7 +2,7 @@
 -- stands (hosts, paths, names) must not be empty and must hold none of the marks that part it from what is beside it.
 use Rattle.std.specs.Prelude.{ℕ, ◌==◌, ◌&&◌, ◌||◌, not, nat_lt, nat_le, Bool, true, List, length}
 use Rattle.std.specs.List.{list_all}
-use Rattle.net_base.specs.Identities.{is_name}
+use Rattle.net_base.specs.Identities.{is_name, most_names}
 use Rattle.net_base.specs.Requests.{is_token}
 use Rattle.net_base.specs.declared.field.Field.{Field}
 use Rattle.partition_keys.specs.declared.alternative.Alternative.{Alternative}
@@ -17,9 +17,9 @@ is_word text = nat_lt 0 (length text) && list_all (λ b. nat_lt 32 b) text
 abbrev pub are_named : List Field → Bool
 are_named fields = list_all (λ f. is_token f.name) fields
 
--- names such as an identity may show (RFC 9525, section 6.3), of which this project takes at most 100
+-- names such as an identity may show (RFC 9525, section 6.3)
 abbrev pub are_names : List (List ℕ) → Bool
-are_names names = nat_le (length names) 100 && list_all is_name names
+are_names names = nat_le (length names) most_names && list_all is_name names
 
 -- a host in a list of alternatives has no comma (44) and no slash (47) either; until when one is broken or proven has no word
 abbrev pub is_writable_alternative : Alternative → Bool

@@ -6,6 +6,7 @@ ghost use Rattle.model_histories.specs.Looks.{IsLateAt};
 ghost use Rattle.model_histories.specs.Port.{IsLookAt, IsOrdersAt, IsSeekAt, Leaves, LeavesNone};
 ghost use Rattle.model_steps.specs.After as after;
 ghost use Rattle.model_values.specs.declared.entry.Act.TheVariants as act;
+ghost use Rattle.model_values.specs.Limits.{most_judged};
 
 use crate::answers::{is_new_to, look_at, rest_of, target_of};
 use crate::longer::{followed, judged};
@@ -83,7 +84,7 @@ impl JudgedPort {
     #[tactic(auto, unfolding(model_steps::specs::After::noted))]
     fn state_at(&self, alloc: Global, moment: Moment) -> Result<AbstractPool, NoMem>
         ensures state { IfOk result (λ s. s ≡ after.noted (run self.now.config self.now.seen) moment) }
-        ensures few { IfOk result (λ s. length s.connections ≤ 4294967294) }
+        ensures few { IfOk result (λ s. length s.connections ≤ most_judged) }
         ensures none { LeavesNone (port_of self.now) (port_of self.now) }
     {
         let mut s = state_of(alloc, &self.config, self.history.as_slice())?;
@@ -194,7 +195,7 @@ impl JudgedPort {
     }
 }
 
-/// The number of a connection. None has a greater number than 4294967294.
+/// The number of a connection. None has a greater number than 4294967295.
 fn conn_of(number: u64) -> ConnNo {
     match u32::try_from(number) {
         Ok(no) => ConnNo(no),

@@ -8,8 +8,8 @@ use model_histories::{is_bad_probe, own_exchange};
 use model_settling::{count_in_group, count_total, planned};
 use model_steps::group_parts_for;
 use model_values::{
-    AbstractPool, CancelReply, ChangeReply, PreconnectReply, ResolvedReply, ShutReply, Submission,
-    SubmitReply,
+    AbstractPool, CancelReply, ChangeReply, MOST_ADDRESSES, PreconnectReply, ResolvedReply,
+    ShutReply, Submission, SubmitReply,
 };
 use net_base::{Addresses, CallerNo, ExchangeNo, Origin};
 use partition_keys::PartitionKey;
@@ -53,7 +53,7 @@ pub(crate) fn change_reply(s: &AbstractPool, who: CallerNo, no: ExchangeNo) -> C
     }
 }
 
-/// A count of connections. There are never more than 4294967294.
+/// A count of connections. There are never more than `MOST_JUDGED`.
 fn count_of(n: usize) -> u32 {
     match u32::try_from(n) {
         Ok(count) => count,
@@ -87,7 +87,7 @@ pub(crate) fn resolved_reply(s: &AbstractPool, addresses: &Addresses) -> Resolve
     let given = addresses.len() as u64;
     match s.shutdown {
         Some(place) => ResolvedReply::Closed(place),
-        None => if given > 16 {
+        None => if given > MOST_ADDRESSES {
             ResolvedReply::TooMany(given)
         } else {
             ResolvedReply::Noted

@@ -13,6 +13,7 @@ use Rattle.partition_keys.specs.declared.alternative.Proof.TheVariants as proof
 use Rattle.partition_keys.specs.declared.key.PartitionKey.{PartitionKey}
 use Rattle.model_authority.specs.Ways.{is_row_of, list_of, alternative_target}
 use Rattle.model_values.specs.declared.state.AltRow.{AltRow}
+use Rattle.model_values.specs.Limits.{broken_for, most_origins}
 
 -- a sum of moments stays at the greatest moment
 abbrev pub later_by : ℕ → Moment → Moment
@@ -37,10 +38,10 @@ marked_as_before old a = with_marks_of a (find (is_same_service a) old)
 abbrev pub other_rows : PartitionKey → Origin → List AltRow → List AltRow
 other_rows key origin rows = filter (λ row. not (is_row_of key origin row)) rows
 
--- the origin's list in its place at the front. 1024 origins are kept, those that were set last: this project's own
+-- the origin's list in its place at the front. The origins that were set last are kept
 unfoldable pub with_list : PartitionKey → Origin → List Alternative → List AltRow → List AltRow
 with_list key origin list rows =
-    take 1024 (record { key = key; origin = origin; list = map (marked_as_before (list_of (find (is_row_of key origin) rows))) list } ∷ other_rows key origin rows)
+    take most_origins (record { key = key; origin = origin; list = map (marked_as_before (list_of (find (is_row_of key origin) rows))) list } ∷ other_rows key origin rows)
 
 -- RFC 7838, sections 3.1 and 3: a list takes the place of the one before, `clear` drops it
 unfoldable pub updated_alternatives : PartitionKey → Origin → AltUpdate → List AltRow → List AltRow
@@ -63,10 +64,10 @@ with_proven_in key origin t until row = if is_row_of key origin row then record 
 abbrev pub without_target_in : PartitionKey → Origin → Target → AltRow → AltRow
 without_target_in key origin t row = if is_row_of key origin row then record row { list = filter (λ a. not (leads_to t a)) row.list } else row
 
--- RFC 7838, section 2.4, lets the origin be used where an alternative fails. That it counts as broken for five minutes
--- is this project's own
+-- RFC 7838, section 2.4, lets the origin be used where an alternative fails. For how long it counts as broken is
+-- this project's own
 unfoldable pub broken_alternatives : PartitionKey → Origin → Target → Moment → List AltRow → List AltRow
-broken_alternatives key origin t now rows = map (with_broken_in key origin t (later_by 300000 now)) rows
+broken_alternatives key origin t now rows = map (with_broken_in key origin t (later_by broken_for now)) rows
 
 -- RFC 8164, section 2.3: the origin's http exchanges may use the alternative before this moment. How long a proof
 -- lasts, and that it is one for this service alone, is this project's own

@@ -20,6 +20,7 @@ use Rattle.model_values.specs.declared.order.OrderMark.TheVariants as mark
 use Rattle.model_values.specs.declared.state.Connection.{Connection}
 use Rattle.model_values.specs.declared.state.Exchange.{Exchange}
 use Rattle.model_values.specs.declared.state.Phase.TheVariants.{Wanted, Dialing, Open, Draining, Closing, Gone}
+use Rattle.model_values.specs.Limits.{most_unsaid}
 
 abbrev pub is_stream : StreamNo → StreamNo → Bool
 is_stream a b = a.0 == b.0
@@ -95,7 +96,7 @@ new_connection g wanted_for now =
       caller = record { 0 = 0 };
       phase = Wanted;
       identity = None;
-      peer_limit = 100;
+      peer_limit = most_unsaid;
       next_stream = 1;
       live = [];
       started = [];
@@ -116,10 +117,10 @@ suits_via g id (via.Alternative p) = same_proto id.proto p && is_secured_for g.o
 unfoldable pub suits : GroupKey → Identity → Bool
 suits g id = suits_via g id g.target.via
 
--- it is up, and no stream was started. Until the peer says how many it allows (RFC 9113, section 6.5.2) there may be
--- 100, which is this project's own
+-- it is up, and no stream was started. Until the peer says how many it allows (RFC 9113, section 6.5.2) the
+-- number is this project's own
 abbrev pub opened_with : Moment → Identity → Connection → Connection
-opened_with now id c = record c { identity = Some id; phase = Open; peer_limit = 100; next_stream = 1; idle_since = now }
+opened_with now id c = record c { identity = Some id; phase = Open; peer_limit = most_unsaid; next_stream = 1; idle_since = now }
 
 abbrev pub refused_with : Identity → Connection → Connection
 refused_with id c = closing (record c { identity = Some id })

@@ -7,7 +7,7 @@ ghost use Rattle.model_authority.specs.Ways as ways;
 use model_authority::{
     alternative_parts, is_row_of, parts_of_target, same_octets, same_proto, same_target,
 };
-use model_values::AltRow;
+use model_values::{AltRow, BROKEN_FOR, MOST_ORIGINS};
 use net_base::{Listed, Moment, NoMem, Origin, PlainValue, Target};
 use partition_keys::{AltUpdate, Alternative, Alternatives, PartitionKey, Proof};
 use std::alloc::Global;
@@ -286,7 +286,7 @@ fn new_row(
     })
 }
 
-/// The origin's list in its place at the front. 1024 origins are kept, those that were set last.
+/// The origin's list in its place at the front. The origins that were set last are kept.
 #[tactic(auto, unfolding(crate::specs::Alternatives::with_list))]
 fn with_list(
     alloc: Global,
@@ -300,7 +300,7 @@ fn with_list(
     let row = new_row(alloc, rows.as_slice(), key, origin, list)?;
     other_rows(rows, key, origin);
     put_first(rows, row)?;
-    rows.truncate(1024);
+    rows.truncate(MOST_ORIGINS);
     Ok(())
 }
 
@@ -354,7 +354,7 @@ pub fn broken_alternatives(
 ) -> Result<(), NoMem>
     ensures { OnOk result (rows.new ≡ spec.broken_alternatives key.now origin.now t.now now rows.old) }
 {
-    broken_until_in_all(alloc, rows, key, origin, t, later_by(300000, now))
+    broken_until_in_all(alloc, rows, key, origin, t, later_by(BROKEN_FOR, now))
 }
 
 /// In the row of this origin, http exchanges may use the alternative up to this moment.

@@ -7,7 +7,7 @@ ghost use Rattle.model_authority.specs.Statuses as statuses;
 
 use crate::identity::suits;
 use model_authority::{is_draining, is_open, is_unsent_at, speaks_h2};
-use model_values::{Connection, Exchange, OrderMark, OrderMarks, Phase};
+use model_values::{Connection, Exchange, MOST_UNSAID, OrderMark, OrderMarks, Phase};
 use net_base::{
     CallerNo, ConnNo, ExchangeNo, Identity, Listed, Moment, NoMem, Origin, PlainValue, StreamList,
     StreamNo,
@@ -229,7 +229,7 @@ pub fn new_connection(group: GroupKey, wanted_for: Option<ExchangeNo>, now: Mome
         caller: CallerNo(0),
         phase: Phase::Wanted,
         identity: None,
-        peer_limit: 100,
+        peer_limit: MOST_UNSAID,
         next_stream: 1,
         live: Listed::new(),
         started: Listed::new(),
@@ -254,7 +254,7 @@ fn opened_with(c: &mut Connection, now: Moment, id: Identity)
 {
     c.identity = Some(id);
     c.phase = Phase::Open;
-    c.peer_limit = 100;
+    c.peer_limit = MOST_UNSAID;
     c.next_stream = 1;
     c.idle_since = now;
 }

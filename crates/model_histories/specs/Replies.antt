@@ -28,6 +28,7 @@ use Rattle.model_values.specs.declared.state.AbstractPool.{AbstractPool}
 use Rattle.model_values.specs.declared.state.Connection.{Connection}
 use Rattle.model_values.specs.declared.state.Exchange.{Exchange}
 use Rattle.model_values.specs.declared.submission.Submission.{Submission}
+use Rattle.model_values.specs.Limits.{most_addresses}
 
 -- ---- submit
 
@@ -109,12 +110,12 @@ preconnect_reply s g count = preconnect_reply_by s g count s.shutdown
 
 abbrev pub IsResolvedReply : AbstractPool → List (List ℕ) → ResolvedReply → Type 0
 IsResolvedReply s addresses (resolved.Closed place) = s.shutdown ≡ Some place
-IsResolvedReply s addresses (resolved.TooMany n) = (s.shutdown ≡ None) × (n ≡ length addresses) × (16 < n)
-IsResolvedReply s addresses resolved.Noted = (s.shutdown ≡ None) × (length addresses ≤ 16)
+IsResolvedReply s addresses (resolved.TooMany n) = (s.shutdown ≡ None) × (n ≡ length addresses) × (most_addresses < n)
+IsResolvedReply s addresses resolved.Noted = (s.shutdown ≡ None) × (length addresses ≤ most_addresses)
 
 abbrev pub resolved_reply_by : List (List ℕ) → Option ℕ → ResolvedReply
 resolved_reply_by addresses (Some place) = resolved.Closed place
-resolved_reply_by addresses None = if nat_lt 16 (length addresses) then resolved.TooMany (length addresses) else resolved.Noted
+resolved_reply_by addresses None = if nat_lt most_addresses (length addresses) then resolved.TooMany (length addresses) else resolved.Noted
 
 abbrev pub resolved_reply : AbstractPool → List (List ℕ) → ResolvedReply
 resolved_reply s addresses = resolved_reply_by addresses s.shutdown

@@ -8,6 +8,7 @@ ghost use Rattle.model_histories.specs.Replies as replies;
 ghost use Rattle.model_histories.specs.Working.{MayWorkAt};
 ghost use Rattle.model_settling.specs.Settling as settling;
 ghost use Rattle.model_authority.specs.Ways as ways;
+ghost use Rattle.model_values.specs.Limits.{most_judged};
 
 use crate::replies::{
     has_one_part, is_cancel_reply, is_change_reply, is_preconnect_reply, is_resolved_reply,
@@ -153,7 +154,7 @@ fn may_dial(s: &AbstractPool, conn: ConnNo, target: &Target) -> bool
 
 /// Whether the pool has something to do by itself.
 pub fn is_late(s: &AbstractPool) -> bool
-    requires { length s.now.connections ≤ 4294967294 }
+    requires { length s.now.connections ≤ most_judged }
     ensures { IsTrue result ↔ settling.IsLate s.now }
 {
     match next_due(s) {
@@ -164,7 +165,7 @@ pub fn is_late(s: &AbstractPool) -> bool
 
 /// Whether the call has the one reply that the state gives.
 fn is_reply(s: &AbstractPool, who: CallerNo, act: &Act) -> bool
-    requires { length s.now.connections ≤ 4294967294 }
+    requires { length s.now.connections ≤ most_judged }
     ensures { IsTrue result ↔ spec.IsReply s.now who act.now }
 {
     match act {
@@ -226,7 +227,7 @@ fn is_pools_entry(s: &AbstractPool, d: Due, e: &Entry) -> bool
 
 /// Whether the entry is a call's, at the state with its moment counted.
 fn is_calls_entry(s: &AbstractPool, e: &Entry) -> bool
-    requires { length s.now.connections ≤ 4294967294 }
+    requires { length s.now.connections ≤ most_judged }
     ensures { IsTrue result ↔ ((e.now.who.0 ≢ 0) × spec.IsReply s.now e.now.who e.now.act) }
 {
     e.who.0 != 0 && is_reply(s, e.who, &e.act)
@@ -248,7 +249,7 @@ fn noted_due(s: &mut AbstractPool, d: Due, e: &Entry) -> bool
 fn noted_settled(s: &mut AbstractPool, e: &Entry) -> bool
     requires settled { settling.IsSettled s.old }
     requires fits { s.old.entries + 1 < 2 ^ 64 }
-    requires few { length s.old.connections ≤ 4294967294 }
+    requires few { length s.old.connections ≤ most_judged }
     ensures state { s.new ≡ after.noted s.old e.now.moment }
     ensures stands { IsTrue result ↔ MayStand s.old e.now }
 {
@@ -259,7 +260,7 @@ fn noted_settled(s: &mut AbstractPool, e: &Entry) -> bool
 /// Counts the entry's moment, and whether the entry may stand at the state before.
 pub fn noted(s: &mut AbstractPool, e: &Entry) -> bool
     requires fits { s.old.entries + 1 < 2 ^ 64 }
-    requires few { length s.old.connections ≤ 4294967294 }
+    requires few { length s.old.connections ≤ most_judged }
     ensures state { s.new ≡ after.noted s.old e.now.moment }
     ensures stands { IsTrue result ↔ MayStand s.old e.now }
 {

@@ -8,8 +8,8 @@ ghost use Rattle.model_histories.specs.Replies as spec;
 use model_authority::{GroupParts, has_ended, is_busy, is_dialing, numbered};
 use model_settling::{count_in_group, count_total, planned};
 use model_values::{
-    AbstractPool, CancelReply, ChangeReply, Connection, Exchange, OrderMarks, PreconnectReply,
-    Report, ResolvedReply, ShutReply, Submission, SubmitReply,
+    AbstractPool, CancelReply, ChangeReply, Connection, Exchange, MOST_ADDRESSES, OrderMarks,
+    PreconnectReply, Report, ResolvedReply, ShutReply, Submission, SubmitReply,
 };
 use net_base::{Addresses, CallerNo, EndCause, ExchangeNo, PlainValue, Scheme, StreamNo};
 use partition_keys::PartitionKey;
@@ -126,8 +126,8 @@ pub(crate) fn is_resolved_reply(
     let given = addresses.len() as u64;
     match reply {
         ResolvedReply::Closed(place) => s.shutdown == Some(place),
-        ResolvedReply::TooMany(n) => s.shutdown.is_none() && n == given && 16 < given,
-        ResolvedReply::Noted => s.shutdown.is_none() && given <= 16,
+        ResolvedReply::TooMany(n) => s.shutdown.is_none() && n == given && MOST_ADDRESSES < given,
+        ResolvedReply::Noted => s.shutdown.is_none() && given <= MOST_ADDRESSES,
     }
 }
 

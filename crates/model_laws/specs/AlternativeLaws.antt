@@ -20,6 +20,7 @@ use Rattle.model_values.specs.declared.state.AbstractPool.{AbstractPool}
 use Rattle.model_values.specs.declared.state.Connection.{Connection}
 use Rattle.model_values.specs.declared.state.Exchange.{Exchange}
 use Rattle.model_authority.specs.Ways.{alternatives_of, alternative_target}
+use Rattle.model_values.specs.Limits.{most_origins}
 
 -- RFC 8164, sections 2 and 2.1: over this alternative http may go, to a server that has proven it, or for the proof itself. That
 -- HTTP/2 alone is left is this project's own
@@ -51,7 +52,7 @@ AlternativesAreFresh =
     (config : Config) (h : List Entry) (n : ℕ) (x : Entry) (e : ExchangeNo) (c : ConnNo) (r : StreamNo) →
     Comes config h n x → x.act ≡ Assign e c r way.Alternative → OfBoth (state_at config h n) e c (GoesToFreshAlternative (state_at config h n) (moment_at h n))
 
--- at each state of a history there are rows of alternatives for at most 1024 pairs of a partition key and an origin. The number is
+-- at each state of a history there are rows of alternatives for at most `most_origins` pairs of a partition key and an origin. The number is
 -- this project's own
 abbrev pub AlternativesAreFew : Type 0
-AlternativesAreFew = (config : Config) (h : List Entry) (n : ℕ) → IsHistory config h → length (state_at config h n).alternatives ≤ 1024
+AlternativesAreFew = (config : Config) (h : List Entry) (n : ℕ) → IsHistory config h → length (state_at config h n).alternatives ≤ most_origins

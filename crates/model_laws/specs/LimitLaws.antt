@@ -19,6 +19,7 @@ use Rattle.model_values.specs.declared.state.Exchange.{Exchange}
 use Rattle.model_authority.specs.Lists.{numbered}
 use Rattle.model_authority.specs.Statuses.{is_waiting, is_leased, speaks_h2}
 use Rattle.model_authority.specs.Ways.{group_of}
+use Rattle.model_values.specs.Limits.{most_moves}
 
 -- ---- connections
 
@@ -85,4 +86,4 @@ count_waits_again s (x ∷ xs) e = (if waits_again s x e then 1 else 0) + count_
 
 -- in a history an exchange waits again at most five times
 abbrev pub ExchangesWaitAgainFiveTimes : Type 0
-ExchangesWaitAgainFiveTimes = (config : Config) (h : List Entry) (e : ExchangeNo) → IsHistory config h → count_waits_again (opening config) h e ≤ 5
+ExchangesWaitAgainFiveTimes = (config : Config) (h : List Entry) (e : ExchangeNo) → IsHistory config h → count_waits_again (opening config) h e ≤ most_moves

@@ -16,6 +16,7 @@ use Rattle.model_values.specs.declared.state.Exchange.{Exchange}
 use Rattle.model_authority.specs.Lists.{numbered}
 use Rattle.model_authority.specs.Statuses.{has_ended, is_wanted, is_open, is_draining, is_closing, is_opening, is_busy, is_at, is_unsent_at}
 use Rattle.model_authority.specs.Ways.{is_row_of, is_host_row_of}
+use Rattle.model_values.specs.Limits.{most_connections, most_moves, most_origins}
 
 -- the connection was opened and isn't gone, and the stream's number is below the next one
 pub record Carries (connection : Connection) (r : StreamNo) : Type 0 where
@@ -72,12 +73,12 @@ pub record IsSound (config : Config) (s : AbstractPool) : Type 0 where
   pub apart : LeasesAreApart s
   pub sent : StartedAreSent s
   pub orderly : (number : ℕ) (connection : Connection) → numbered number s.connections ≡ Some connection → HasStreamsInOrder config connection
-  pub moves : (number : ℕ) (exchange : Exchange) → numbered number s.exchanges ≡ Some exchange → exchange.moves ≤ 5
+  pub moves : (number : ℕ) (exchange : Exchange) → numbered number s.exchanges ≡ Some exchange → exchange.moves ≤ most_moves
   pub shut : IsSome s.shutdown → IsShutDown s
   pub within : IsWithinLimits config s
   pub exchanges : length s.exchanges ≤ config.submissions
-  pub connections : length s.connections ≤ 2147483647
-  pub few : length s.alternatives ≤ 1024
+  pub connections : length s.connections ≤ most_connections
+  pub few : length s.alternatives ≤ most_origins
   pub rows : RowsAreApart s
 
 -- each state that a history goes through is sound

@@ -15,6 +15,7 @@ use Rattle.model_values.specs.declared.state.AbstractPool.{AbstractPool}
 use Rattle.model_values.specs.declared.state.Connection.{Connection}
 use Rattle.model_values.specs.declared.state.Exchange.{Exchange}
 use Rattle.model_values.specs.declared.state.ProtoRow.{ProtoRow}
+use Rattle.model_values.specs.Limits.{most_connections}
 
 -- ---- eligible
 
@@ -72,9 +73,9 @@ eligible_in s g = count_by (is_eligible_in s g) s.exchanges
 unfoldable pub openings_wanted : AbstractPool → GroupKey → ℕ
 openings_wanted s g = if expects_h2 s g then 1 else eligible_in s g
 
--- 2147483647 connections are made at most
+-- one more connection may be made at all
 abbrev pub has_numbers : AbstractPool → Bool
-has_numbers s = nat_lt (length s.connections) 2147483647
+has_numbers s = nat_lt (length s.connections) most_connections
 
 abbrev pub is_total_full : AbstractPool → Bool
 is_total_full s = nat_le s.config.total (count_total s)
@@ -100,7 +101,7 @@ has_room s number e = not (is_total_full s) && has_room_but_total s number e
 
 -- how many connections of a group there is room for
 unfoldable pub room_left : AbstractPool → GroupKey → ℕ
-room_left s g = min (min (s.config.total - count_total s) (s.config.per_group - count_in_group s g)) (2147483647 - length s.connections)
+room_left s g = min (min (s.config.total - count_total s) (s.config.per_group - count_in_group s g)) (most_connections - length s.connections)
 
 -- how many of the connections asked for are opened ahead: none beside an open HTTP/2 connection, and where HTTP/2 is
 -- expected at most one

@@ -1,6 +1,6 @@
 //! What a pool does by itself after a call: which exchange expires, lapses, gets a connection or has one opened, and which
 //! idle connection makes room. `specs/Settling` says it by facts, `specs/Due` computes it, and `proofs/DueLemmas` has that
-//! the two are one. `next_due` takes no memory, and asks that there are at most 4294967294 connections. Limits, ranks and the
+//! the two are one. `next_due` takes no memory, and asks that there are at most `MOST_JUDGED` connections. Limits, ranks and the
 //! order of the kinds are this project's own.
 #![tactic(auto)]
 

@@ -12,7 +12,7 @@ use model_authority::{
     GroupParts, group_parts, has_ended, is_h2, is_open, is_waiting, parts_of_group, same_group,
     speaks_h2,
 };
-use model_values::{AbstractPool, Connection, Exchange, ProtoRow};
+use model_values::{AbstractPool, Connection, Exchange, MOST_CONNECTIONS, ProtoRow};
 use net_base::{ExchangeNo, Via};
 
 // ---- eligible
@@ -167,7 +167,7 @@ pub fn openings_wanted(s: &AbstractPool, g: &GroupParts) -> usize
 pub fn has_numbers(s: &AbstractPool) -> bool
     ensures { result ≡ spec.has_numbers s.now }
 {
-    s.connections.len() < 2147483647
+    s.connections.len() < MOST_CONNECTIONS
 }
 
 /// Whether there are as many connections as there may be in all.
@@ -213,7 +213,7 @@ fn room_left(s: &AbstractPool, g: &GroupParts) -> usize
 {
     let in_all = (s.config.total as usize).saturating_sub(count_total(s));
     let in_group = (s.config.per_group as usize).saturating_sub(count_in_group(s, g));
-    let numbers = 2147483647usize.saturating_sub(s.connections.len());
+    let numbers = MOST_CONNECTIONS.saturating_sub(s.connections.len());
     in_all.min(in_group).min(numbers)
 }
 

@@ -6,6 +6,7 @@ ghost use Rattle.model_authority.specs.Lists as lists;
 ghost use Rattle.model_settling.specs.Settling as settling;
 ghost use Rattle.model_authority.specs.Statuses as statuses;
 ghost use Rattle.model_authority.specs.Ways as ways;
+ghost use Rattle.model_values.specs.Limits.{most_judged};
 
 use crate::kinds::{Best, Due};
 use crate::room::is_total_full;
@@ -214,7 +215,7 @@ fn assign_to(s: &AbstractPool, number: u64, e: &Exchange, conn: u32, c: &Connect
 /// The exchange of this number gets its lowest-numbered usable connection.
 #[tactic(auto, unfolding(crate::specs::Due::lowest_from))]
 fn assign_over(s: &AbstractPool, number: u64, e: &Exchange) -> Option<Due>
-    requires { length s.now.connections ≤ 4294967294 }
+    requires { length s.now.connections ≤ most_judged }
     ensures { result ≡ spec.assign_over s.now number e.now (spec.lowest_of (settling.can_use s.now e.now) s.now.connections) }
 {
     let list = s.connections.as_slice();
@@ -231,7 +232,7 @@ fn assign_over(s: &AbstractPool, number: u64, e: &Exchange) -> Option<Due>
 /// The exchange of this number gets its lowest-numbered usable connection, where there is one.
 #[tactic(auto, unfolding(crate::specs::Due::assign_of))]
 fn assign_of(s: &AbstractPool, number: u64) -> Option<Due>
-    requires { length s.now.connections ≤ 4294967294 }
+    requires { length s.now.connections ≤ most_judged }
     ensures { result ≡ spec.assign_of s.now number (lists.numbered number s.now.exchanges) }
 {
     match numbered(number, s.exchanges.as_slice()) {
@@ -243,7 +244,7 @@ fn assign_of(s: &AbstractPool, number: u64) -> Option<Due>
 /// The stream that an exchange is to get.
 #[tactic(auto, unfolding(crate::specs::Due::assign_due))]
 fn assign_due(s: &AbstractPool) -> Option<Due>
-    requires { length s.now.connections ≤ 4294967294 }
+    requires { length s.now.connections ≤ most_judged }
     ensures { result ≡ spec.assign_due s.now }
 {
     match best_start(s) {
@@ -255,7 +256,7 @@ fn assign_due(s: &AbstractPool) -> Option<Due>
 /// The connection that is to be wanted.
 #[tactic(auto, unfolding(crate::specs::Due::want_due))]
 fn want_due(s: &AbstractPool) -> Option<Due>
-    requires { length s.now.connections ≤ 4294967294 }
+    requires { length s.now.connections ≤ most_judged }
     ensures { result ≡ spec.want_due s.now }
 {
     match best_open(s) {
@@ -291,7 +292,7 @@ fn must_evict(s: &AbstractPool) -> bool
 
 /// The connection that is idle for longest makes room.
 fn evict_best(s: &AbstractPool) -> Option<Due>
-    requires { length s.now.connections ≤ 4294967294 }
+    requires { length s.now.connections ≤ most_judged }
     ensures { result ≡ spec.evict_best (spec.least_of settling.is_idle settling.idle_since_of s.now.connections) }
 {
     match best_idle(s.connections.as_slice()) {
@@ -303,7 +304,7 @@ fn evict_best(s: &AbstractPool) -> Option<Due>
 /// The connection that is to make room.
 #[tactic(auto, unfolding(crate::specs::Due::evict_due))]
 fn evict_due(s: &AbstractPool) -> Option<Due>
-    requires { length s.now.connections ≤ 4294967294 }
+    requires { length s.now.connections ≤ most_judged }
     ensures { result ≡ spec.evict_due s.now }
 {
     if must_evict(s) { evict_best(s) } else { None }
@@ -312,7 +313,7 @@ fn evict_due(s: &AbstractPool) -> Option<Due>
 /// The first kind that applies.
 #[tactic(auto, unfolding(crate::specs::Due::due_of))]
 fn computed_due(s: &AbstractPool) -> Option<Due>
-    requires { length s.now.connections ≤ 4294967294 }
+    requires { length s.now.connections ≤ most_judged }
     ensures { result ≡ spec.due_of s.now }
 {
     let expire = expire_due(s);
@@ -334,10 +335,10 @@ fn computed_due(s: &AbstractPool) -> Option<Due>
     evict_due(s)
 }
 
-/// What the pool is to do by itself: the first kind that applies, of a state with at most 4294967294 connections. Takes no
+/// What the pool is to do by itself: the first kind that applies, of a state with at most `MOST_JUDGED` connections. Takes no
 /// memory.
 pub fn next_due(s: &AbstractPool) -> Option<Due>
-    requires { length s.now.connections ≤ 4294967294 }
+    requires { length s.now.connections ≤ most_judged }
     ensures computes { result ≡ spec.due_of s.now }
     ensures next { MatchOption result (settling.IsSettled s.now) (spec.IsNext s.now) }
 {
@@ -346,7 +347,7 @@ pub fn next_due(s: &AbstractPool) -> Option<Due>
 
 /// Whether the pool has nothing to do by itself.
 pub fn is_settled(s: &AbstractPool) -> bool
-    requires { length s.now.connections ≤ 4294967294 }
+    requires { length s.now.connections ≤ most_judged }
     ensures { IsTrue result ↔ settling.IsSettled s.now }
 {
     match next_due(s) {

@@ -13,6 +13,7 @@ use Rattle.model_values.specs.declared.state.Exchange.{Exchange}
 use Rattle.model_values.specs.declared.state.Status.{Status}
 use Rattle.model_values.specs.declared.state.Status.TheVariants.{Waiting, Leased, Ended}
 use Rattle.model_values.specs.declared.submission.Submission.{Submission}
+use Rattle.model_values.specs.Limits.{most_moves}
 
 abbrev pub new_exchange : CallerNo → Submission → Exchange
 new_exchange who ask = record { ask = ask; caller = who; moves = 0; retried = false; direct_only = false; status = Waiting }
@@ -45,7 +46,7 @@ ended_if_waiting how e = if is_waiting e.status then ended_by how e else e
 
 -- it waits again, once more. The sixth time it ends, which is this project's own
 unfoldable pub moved : Exchange → Exchange
-moved e = if nat_le 5 e.moves then ended_by outcome.TooManyMoves e else record e { status = Waiting; moves = e.moves + 1 }
+moved e = if nat_le most_moves e.moves then ended_by outcome.TooManyMoves e else record e { status = Waiting; moves = e.moves + 1 }
 
 -- ---- orders
 

@@ -8,7 +8,7 @@ ghost use Rattle.model_values.specs.declared.state.Status.TheVariants.{Leased};
 
 use model_authority::{is_waiting, numbered_mut};
 use model_changes::is_start_of;
-use model_values::{Exchange, OrderMark, Outcome, Status, Submission, Way};
+use model_values::{Exchange, MOST_MOVES, OrderMark, Outcome, Status, Submission, Way};
 use net_base::{CallerNo, ConnNo, StreamNo};
 
 /// An exchange that waits.
@@ -30,7 +30,7 @@ pub fn new_exchange(who: CallerNo, ask: Submission) -> Exchange
 pub fn wait_again(e: &mut Exchange)
     ensures { e.new ≡ spec.moved e.old }
 {
-    if e.moves >= 5 {
+    if e.moves >= MOST_MOVES {
         e.status = Status::Ended(Outcome::TooManyMoves);
     } else {
         e.status = Status::Waiting;

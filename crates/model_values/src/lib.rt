@@ -6,6 +6,7 @@
 mod act_value;
 mod config;
 mod entry;
+mod limits;
 mod order;
 mod outcome;
 mod reply;
@@ -19,6 +20,10 @@ mod ticket;
 pub use act_value::{is_assign, is_evict, is_expire, is_lapse};
 pub use config::Config;
 pub use entry::{Act, Entry, History, Way};
+pub use limits::{
+    BROKEN_FOR, MOST_ADDRESSES, MOST_CONNECTIONS, MOST_JUDGED, MOST_MOVES, MOST_ORIGINS,
+    MOST_UNSAID,
+};
 pub use order::{Order, OrderMark, OrderMarks, Orders};
 pub use outcome::Outcome;
 pub use reply::{

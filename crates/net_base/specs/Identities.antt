@@ -27,15 +27,18 @@ IsName name = IsTrue (is_name name)
 abbrev pub IsFirstBadName : List (List ℕ) → ℕ → Type 0
 IsFirstBadName names i = ((name : List ℕ) × (slice_get names i ≡ Some name) × ¬ (IsName name)) × All IsName (take i names)
 
--- at most 100 names
+-- how many names an identity may have, which is this project's own
+abbrev pub most_names : ℕ
+most_names = 100
+
 abbrev pub AreNames : List (List ℕ) → Type 0
-AreNames names = (length names ≤ 100) × All IsName names
+AreNames names = (length names ≤ most_names) × All IsName names
 
 -- why these names are refused; want of memory needs no cause
 abbrev pub RefusesNames : List (List ℕ) → IdentityFault → Type 0
 RefusesNames names NoMem = ⊤
-RefusesNames names (TooManyNames n) = (100 < n) × (n ≡ length names)
-RefusesNames names (BadName i) = (length names ≤ 100) × IsFirstBadName names i
+RefusesNames names (TooManyNames n) = (most_names < n) × (n ≡ length names)
+RefusesNames names (BadName i) = (length names ≤ most_names) × IsFirstBadName names i
 
 -- the identity of these, with the names in lower case
 abbrev pub identity_of : List (List ℕ) → Bool → Proto → List ℕ → Identity

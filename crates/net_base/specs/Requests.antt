@@ -100,9 +100,13 @@ no_place fault (Some place) = Err (fault place)
 abbrev pub none_is : (Field → Bool) → (ℕ → BuildFault) → List Field → Result ⊤ BuildFault
 none_is test fault fields = no_place fault (position test fields)
 
+-- how many fields a request may have, which is this project's own
+abbrev pub most_fields : ℕ
+most_fields = 100
+
 abbrev pub fields_given : List Field → Result ⊤ BuildFault
 fields_given fields = do
-  demand (nat_le (length fields) 100) (TooManyFields (length fields))
+  demand (nat_le (length fields) most_fields) (TooManyFields (length fields))
   none_is (λ f. not (is_field f)) BadField fields
   none_is is_forbidden_field ForbiddenField fields
 

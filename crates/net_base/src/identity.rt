@@ -48,7 +48,7 @@ impl PlainValue for Identity {
 pub enum IdentityFault {
     /// There was no memory.
     NoMem,
-    /// There are so many names, and more than 100.
+    /// There are so many names, and more than `MOST_NAMES`.
     TooManyNames(u64),
     /// The name at this place, counted from 0, is none: without a leading `*.` it is empty or is `-`, or it has an
     /// octet other than ASCII letters, digits, `-`, `.`, `_`, `:`, `[` and `]`.
@@ -66,10 +66,13 @@ impl From<NoMem> for IdentityFault {
     }
 }
 
+/// How many names an identity may have. The number is this project's own.
+pub const MOST_NAMES: usize = 100;
+
 impl Identity {
     /// The identity with these names, which are kept in lower case. A leading `*.` is a wildcard (RFC 9525, section 6.3).
     ///
-    /// `TooManyNames` where there are more than 100, `BadName` at the first that may be no name, in this order. That a name
+    /// `TooManyNames` where there are more than `MOST_NAMES`, `BadName` at the first that may be no name, in this order. That a name
     /// is a host isn't asked.
     pub fn build(
         alloc: Global,
@@ -97,7 +100,7 @@ fn check_names(names: &Names) -> Result<(), IdentityFault>
     ensures ok { OnOk result (AreNames names.now) }
     ensures refused { IfErr result (RefusesNames names.now) }
 {
-    if names.len() > 100 {
+    if names.len() > MOST_NAMES {
         return Err(IdentityFault::TooManyNames(names.len() as u64));
     }
     match first_bad_name(names.as_slice()) {

@@ -24,13 +24,13 @@ pub use dressing::dressed;
 pub use end_cause::EndCause;
 pub use field::{Field, Fields};
 pub use host::is_plain_host;
-pub use identity::{Addresses, Identity, IdentityFault, Names, is_name};
+pub use identity::{Addresses, Identity, IdentityFault, MOST_NAMES, Names, is_name};
 pub use method::is_idempotent;
 pub use numbers::{CallerNo, ConnNo, ExchangeNo, Moment, StreamList, StreamNo, number_in};
 pub use origin::{Origin, Scheme, authority};
 pub use peer::{ActKind, Answer, AnswerBody, Answers, Peer, PeerAct, PeerActs, PeerBook};
 pub use plain_values::{Listed, NoMem, Octets, PlainValue};
-pub use request::{BuildFault, Request, is_field, is_token_text};
+pub use request::{BuildFault, MOST_FIELDS, Request, is_field, is_token_text};
 pub use response::Response;
 pub use target::{Proto, Target, Via};
 

@@ -58,7 +58,7 @@ pub enum BuildFault {
     BadUrl,
     /// The URL's scheme is neither http nor https.
     BadScheme,
-    /// There are so many fields, and more than 100.
+    /// There are so many fields, and more than `MOST_FIELDS`.
     TooManyFields(u64),
     /// The field at this place has a name that is no token or is longer than 65535 octets, or a value with a control
     /// other than tab, or with a space or tab at an end (RFC 9110, sections 5.1 and 5.5).
@@ -205,11 +205,14 @@ fn path_of(alloc: Global, url: &Url) -> Result<Octets, NoMem>
 
 // ---- fields
 
+/// How many fields a request may have. The number is this project's own.
+pub const MOST_FIELDS: usize = 100;
+
 /// Tests the fields.
 fn check_fields(fields: &Fields) -> Result<(), BuildFault>
     ensures { result ≡ fields_given fields.now }
 {
-    if fields.len() > 100 {
+    if fields.len() > MOST_FIELDS {
         return Err(BuildFault::TooManyFields(fields.len() as u64));
     }
     if let Some(place) = first_bad_field(fields.as_slice()) {

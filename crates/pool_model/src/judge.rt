@@ -4,11 +4,12 @@ ghost use Rattle.std.specs.Bool.{OnTrue};
 ghost use Rattle.model_steps.specs.After as after;
 ghost use Rattle.model_histories.specs.Histories as spec;
 ghost use Rattle.model_settling.specs.Settling.{IsSettled};
+ghost use Rattle.model_values.specs.Limits.{most_judged};
 
 use model_histories::noted;
 use model_settling::is_settled;
 use model_steps::after_act;
-use model_values::{AbstractPool, Config, Entry, History, Rows};
+use model_values::{AbstractPool, Config, Entry, History, MOST_JUDGED, Rows};
 use net_base::{Moment, NoMem};
 use std::alloc::Global;
 
@@ -31,9 +32,9 @@ pub fn open_pool(alloc: Global, config: &Config) -> AbstractPool
 
 /// Whether the pool's numbers still fit: one more connection has a number of 32 bits, and one more entry one of 64.
 pub fn has_room_for_more(s: &AbstractPool) -> bool
-    ensures { IsTrue result ↔ ((length s.now.connections ≤ 4294967294) × (s.now.entries + 1 < 2 ^ 64)) }
+    ensures { IsTrue result ↔ ((length s.now.connections ≤ most_judged) × (s.now.entries + 1 < 2 ^ 64)) }
 {
-    s.connections.len() as u64 <= 4294967294 && s.entries < u64::MAX
+    s.connections.len() <= MOST_JUDGED && s.entries < u64::MAX
 }
 
 /// Whether the entry may stand here. Where it may, the state becomes the one that it leaves.
