@@ -7,6 +7,7 @@
 mod counts;
 mod kinds;
 mod room;
+mod seek;
 mod settle;
 mod settling;
 

@@ -1,5 +1,5 @@
 // What the pool is to do by itself.
-ghost use Rattle.std.specs.Prelude.{◌≡◌, ◌↔◌, ◌≤◌, IsTrue, IfOk, IfSome, MatchOption, is_some, length};
+ghost use Rattle.std.specs.Prelude.{◌≡◌, ◌↔◌, ◌≤◌, IsTrue, IfOk, MatchOption, is_some, length};
 ghost use Rattle.std.specs.List.{list_any};
 ghost use Rattle.model_settling.specs.Due as spec;
 ghost use Rattle.model_authority.specs.Lists as lists;
@@ -8,158 +8,16 @@ ghost use Rattle.model_authority.specs.Statuses as statuses;
 ghost use Rattle.model_authority.specs.Ways as ways;
 ghost use Rattle.model_values.specs.Limits.{most_judged};
 
-use crate::kinds::{Best, Due};
+use crate::kinds::Due;
 use crate::room::is_total_full;
-use crate::settling::{can_open, can_start, has_expired, has_lapsed, is_held_back, is_idle};
-use model_authority::{has_target, is_closing, is_usable, numbered, target, way};
+use crate::seek::{least, lowest};
+use crate::settling::{Expired, HeldBack, Idle, Lapsed, Openable, Startable, Usable};
+use model_authority::{has_target, is_closing, numbered, target, way};
 use model_values::{
     AbstractPool, Act, Connection, Exchange, is_assign, is_evict, is_expire, is_lapse,
 };
 use net_base::{ConnNo, ExchangeNo, NoMem, StreamNo};
 use std::alloc::Global;
-
-// ---- the lowest-numbered
-
-/// The lowest-numbered exchange whose deadline is reached.
-#[tactic(auto, unfolding(crate::specs::Due::lowest_from))]
-fn lowest_expired(s: &AbstractPool) -> Option<u64>
-    ensures { result ≡ spec.lowest_of (settling.has_expired s.now) s.now.exchanges }
-{
-    let list = s.exchanges.as_slice();
-    let mut number = 1u64;
-    for e in list {
-        if has_expired(s, e) {
-            return Some(number);
-        }
-        number += 1;
-    }
-    None
-}
-
-/// The lowest-numbered waiting probe whose origin has no fresh HTTP/2 alternative.
-#[tactic(auto, unfolding(crate::specs::Due::lowest_from))]
-fn lowest_lapsed(s: &AbstractPool) -> Option<u64>
-    ensures { result ≡ spec.lowest_of (settling.has_lapsed s.now) s.now.exchanges }
-{
-    let list = s.exchanges.as_slice();
-    let mut number = 1u64;
-    for e in list {
-        if has_lapsed(s, e) {
-            return Some(number);
-        }
-        number += 1;
-    }
-    None
-}
-
-/// The lowest-numbered exchange that waits for the total alone.
-#[tactic(auto, unfolding(crate::specs::Due::lowest_from))]
-fn lowest_held_back(s: &AbstractPool) -> Option<u64>
-    ensures { result ≡ spec.lowest_of (settling.is_held_back s.now) s.now.exchanges }
-{
-    let list = s.exchanges.as_slice();
-    let mut number = 1u64;
-    for e in list {
-        if is_held_back(s, number, e) {
-            return Some(number);
-        }
-        number += 1;
-    }
-    None
-}
-
-// ---- the least
-
-/// Whether an item of this key is better than the best so far.
-fn is_better(key: u64, best: Option<Best>) -> bool
-    ensures { result ≡ spec.is_better key best }
-{
-    match best {
-        None => true,
-        Some(best) => key < best.key,
-    }
-}
-
-/// The better of the best so far and this exchange, where it can start.
-fn better_start(s: &AbstractPool, best: Option<Best>, number: u64, e: &Exchange) -> Option<Best>
-    ensures { result ≡ spec.better (settling.can_start s.now) settling.urgency_of best number e.now }
-{
-    let key = u64::from(e.ask.urgency);
-    if is_better(key, best) && can_start(s, e) {
-        Some(Best { number, key })
-    } else {
-        best
-    }
-}
-
-/// The exchange that can start and is the most urgent.
-#[tactic(auto, unfolding(crate::specs::Due::least_from))]
-fn best_start(s: &AbstractPool) -> Option<Best>
-    ensures { result ≡ spec.least_of (settling.can_start s.now) settling.urgency_of s.now.exchanges }
-{
-    let list = s.exchanges.as_slice();
-    let mut best = None;
-    let mut number = 1u64;
-    for e in list {
-        best = better_start(s, best, number, e);
-        number += 1;
-    }
-    best
-}
-
-/// The better of the best so far and this exchange, where it may have a new connection.
-fn better_open(s: &AbstractPool, best: Option<Best>, number: u64, e: &Exchange) -> Option<Best>
-    ensures { result ≡ spec.better (settling.can_open s.now) settling.urgency_of best number e.now }
-{
-    let key = u64::from(e.ask.urgency);
-    if is_better(key, best) && can_open(s, number, e) {
-        Some(Best { number, key })
-    } else {
-        best
-    }
-}
-
-/// The exchange that may have a new connection and is the most urgent.
-#[tactic(auto, unfolding(crate::specs::Due::least_from))]
-fn best_open(s: &AbstractPool) -> Option<Best>
-    ensures { result ≡ spec.least_of (settling.can_open s.now) settling.urgency_of s.now.exchanges }
-{
-    let list = s.exchanges.as_slice();
-    let mut best = None;
-    let mut number = 1u64;
-    for e in list {
-        best = better_open(s, best, number, e);
-        number += 1;
-    }
-    best
-}
-
-/// The better of the best so far and this connection, where it is idle.
-fn better_idle(best: Option<Best>, number: u64, c: &Connection) -> Option<Best>
-    ensures { result ≡ spec.better settling.is_idle settling.idle_since_of best number c.now }
-{
-    let key = c.idle_since.0;
-    if is_better(key, best) && is_idle(c) {
-        Some(Best { number, key })
-    } else {
-        best
-    }
-}
-
-/// The connection that is idle for longest.
-#[tactic(auto, unfolding(crate::specs::Due::least_from))]
-fn best_idle(list: &[Connection]) -> Option<Best>
-    ensures value { result ≡ spec.least_of settling.is_idle settling.idle_since_of list.now }
-    ensures within { IfSome result (λ best. best.number ≤ length list.now) }
-{
-    let mut best = None;
-    let mut number = 1u64;
-    for c in list {
-        best = better_idle(best, number, c);
-        number += 1;
-    }
-    best
-}
 
 // ---- what is due
 
@@ -168,7 +26,7 @@ fn best_idle(list: &[Connection]) -> Option<Best>
 fn expire_due(s: &AbstractPool) -> Option<Due>
     ensures { result ≡ spec.expire_due s.now }
 {
-    match lowest_expired(s) {
+    match lowest(s.exchanges.as_slice(), &Expired(s)) {
         None => None,
         Some(number) => Some(Due::Expire(ExchangeNo(number))),
     }
@@ -179,7 +37,7 @@ fn expire_due(s: &AbstractPool) -> Option<Due>
 fn lapse_due(s: &AbstractPool) -> Option<Due>
     ensures { result ≡ spec.lapse_due s.now }
 {
-    match lowest_lapsed(s) {
+    match lowest(s.exchanges.as_slice(), &Lapsed(s)) {
         None => None,
         Some(number) => Some(Due::Lapse(ExchangeNo(number))),
     }
@@ -196,7 +54,7 @@ fn next_stream(s: &AbstractPool, e: &Exchange, c: &Connection) -> StreamNo
 }
 
 /// The exchange of this number gets this usable connection.
-fn assign_to(s: &AbstractPool, number: u64, e: &Exchange, conn: u32, c: &Connection) -> Option<Due>
+fn assign_by(s: &AbstractPool, number: u64, e: &Exchange, conn: u32, c: &Connection) -> Option<Due>
     requires { IsTrue (ways.is_usable s.now e.now c.now) }
     ensures { result ≡ spec.assign_by number conn c.now (ways.way_of s.now e.now c.now) }
 {
@@ -212,21 +70,27 @@ fn assign_to(s: &AbstractPool, number: u64, e: &Exchange, conn: u32, c: &Connect
     }
 }
 
+/// The exchange of this number gets the usable connection of that number.
+fn assign_to(s: &AbstractPool, number: u64, e: &Exchange, conn: u64) -> Option<Due>
+    requires usable { lists.Passes (settling.can_use s.now e.now) s.now.connections conn }
+    requires within { conn ≤ most_judged }
+    ensures { result ≡ spec.assign_to s.now number e.now conn (lists.numbered conn s.now.connections) }
+{
+    match numbered(conn, s.connections.as_slice()) {
+        None => None,
+        Some(c) => assign_by(s, number, e, conn as u32, c),
+    }
+}
+
 /// The exchange of this number gets its lowest-numbered usable connection.
-#[tactic(auto, unfolding(crate::specs::Due::lowest_from))]
 fn assign_over(s: &AbstractPool, number: u64, e: &Exchange) -> Option<Due>
     requires { length s.now.connections ≤ most_judged }
     ensures { result ≡ spec.assign_over s.now number e.now (spec.lowest_of (settling.can_use s.now e.now) s.now.connections) }
 {
-    let list = s.connections.as_slice();
-    let mut conn = 1u32;
-    for c in list {
-        if is_usable(s, e, c) {
-            return assign_to(s, number, e, conn, c);
-        }
-        conn += 1;
+    match lowest(s.connections.as_slice(), &Usable { s, e }) {
+        None => None,
+        Some(conn) => assign_to(s, number, e, conn),
     }
-    None
 }
 
 /// The exchange of this number gets its lowest-numbered usable connection, where there is one.
@@ -247,7 +111,7 @@ fn assign_due(s: &AbstractPool) -> Option<Due>
     requires { length s.now.connections ≤ most_judged }
     ensures { result ≡ spec.assign_due s.now }
 {
-    match best_start(s) {
+    match least(s.exchanges.as_slice(), &Startable(s)) {
         None => None,
         Some(best) => assign_of(s, best.number),
     }
@@ -259,7 +123,7 @@ fn want_due(s: &AbstractPool) -> Option<Due>
     requires { length s.now.connections ≤ most_judged }
     ensures { result ≡ spec.want_due s.now }
 {
-    match best_open(s) {
+    match least(s.exchanges.as_slice(), &Openable(s)) {
         None => None,
         Some(best) => Some(Due::Want {
             exchange: ExchangeNo(best.number),
@@ -279,7 +143,7 @@ fn any_closing(list: &[Connection]) -> bool
 fn any_held_back(s: &AbstractPool) -> bool
     ensures { result ≡ is_some (spec.lowest_of (settling.is_held_back s.now) s.now.exchanges) }
 {
-    lowest_held_back(s).is_some()
+    lowest(s.exchanges.as_slice(), &HeldBack(s)).is_some()
 }
 
 /// Whether a connection has to make room.
@@ -295,7 +159,7 @@ fn evict_best(s: &AbstractPool) -> Option<Due>
     requires { length s.now.connections ≤ most_judged }
     ensures { result ≡ spec.evict_best (spec.least_of settling.is_idle settling.idle_since_of s.now.connections) }
 {
-    match best_idle(s.connections.as_slice()) {
+    match least(s.connections.as_slice(), &Idle) {
         None => None,
         Some(best) => Some(Due::Evict(ConnNo(best.number as u32))),
     }

@@ -1,6 +1,10 @@
-use Rattle.std.proofs.Common.{◌∙◌, sym}
-use Rattle.model_settling.proofs.Assigned.{assign_at}
+use Rattle.std.proofs.Common.{◌≡◌, Some}
+use Rattle.model_settling.specs.Due.{lowest_of}
+use Rattle.model_settling.specs.Settling.{can_use}
+use Rattle.model_settling.proofs.LowestLemmas.{lowest_is}
 use Rattle.model_settling.proofs.settle.assign_over.Goals as goal
 
-pub returns-then-is_usable : goal.returns-then-is_usable
-returns-then-is_usable c = c.assign_to.ensures ∙ assign_at _ _ _ _ _ _ _ c.as_slice-list.ensures c.loop-c.invariant.number c.loop-c-test.true c.c-item.is (sym c.is_usable.ensures ∙ c.if-is_usable.true) c.loop-c.invariant.rest
+pub assign_to-requires-clause-usable : goal.assign_to-requires-clause-usable
+assign_to-requires-clause-usable c =
+    let found : lowest_of (can_use c.args.s.now c.args.e.now) c.args.s.now.connections ≡ Some c.in-Some.conn = cc in
+    (lowest_is _ _ _ found).passes
