@@ -57,6 +57,23 @@ const GOAWAY: &str =
 0 101 orders 1 0 = close
 ="#;
 
+/// A start that isn't handed yet when the peer goes away is taken back: it is handed on the new connection alone.
+const PENDING: &str =
+    r#"0 1 submit https://top.test + 3 fore - plain POST https://a.test:443 / - - = accepted 1
+0 0 assign 1 1 1 direct
+0 101 orders 1 0 = start 1 1
+0 1 submit https://top.test + 3 fore - plain POST https://a.test:443 / - - = accepted 2
+0 0 assign 2 1 3 direct
+0 101 goaway 1 0 1
+0 0 want 2 2 a.test:443 secure direct
+! 0 101 orders 1 0 = start 2 3
+0 101 seek = dial 2 a.test:443 secure direct
+0 101 opened 2 0 secure h2 07070707070707070707070707070707 a.test
+0 0 assign 2 2 1 direct
+! 0 101 orders 1 0 = start 2 3
+0 101 orders 2 0 = start 2 1
+="#;
+
 /// An exchange moves five times, and then ends.
 const FIVE_MOVES: &str =
     r#"0 1 submit https://top.test + 3 fore - plain GET https://a.test:443 / - - = accepted 1
@@ -144,7 +161,7 @@ pub(super) const COURSES: [Courses; 3] = [
     Courses {
         config: LIMITS,
         front: OPENED,
-        behind: &[URGENT, GOAWAY, FIVE_MOVES],
+        behind: &[URGENT, GOAWAY, PENDING, FIVE_MOVES],
     },
     Courses {
         config: LIMITS,
