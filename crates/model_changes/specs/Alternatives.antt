@@ -11,6 +11,8 @@ use Rattle.partition_keys.specs.declared.alternative.AltUpdate.TheVariants as up
 use Rattle.partition_keys.specs.declared.alternative.Proof.{Proof}
 use Rattle.partition_keys.specs.declared.alternative.Proof.TheVariants as proof
 use Rattle.partition_keys.specs.declared.key.PartitionKey.{PartitionKey}
+use Rattle.model_changes.specs.declared.alternatives.Mark.{Mark}
+use Rattle.model_changes.specs.declared.alternatives.Mark.TheVariants as mark
 use Rattle.model_authority.specs.Ways.{is_row_of, list_of, alternative_target}
 use Rattle.model_values.specs.declared.state.AltRow.{AltRow}
 use Rattle.model_values.specs.Limits.{broken_for, most_origins}
@@ -49,17 +51,15 @@ updated_alternatives key origin update.None rows = rows
 updated_alternatives key origin update.Clear rows = other_rows key origin rows
 updated_alternatives key origin (update.Set list) rows = with_list key origin list rows
 
-abbrev pub broken_from : Target → Moment → Alternative → Alternative
-broken_from t until a = if leads_to t a then record a { broken_until = until } else a
+abbrev pub marked : Mark → Alternative → Alternative
+marked (mark.Broken until) a = record a { broken_until = until }
+marked (mark.Proven until) a = record a { proven_until = until }
 
-abbrev pub proven_from : Target → Moment → Alternative → Alternative
-proven_from t until a = if leads_to t a then record a { proven_until = until } else a
+abbrev pub marked_at : Target → Mark → Alternative → Alternative
+marked_at t m a = if leads_to t a then marked m a else a
 
-abbrev pub with_broken_in : PartitionKey → Origin → Target → Moment → AltRow → AltRow
-with_broken_in key origin t until row = if is_row_of key origin row then record row { list = map (broken_from t until) row.list } else row
-
-abbrev pub with_proven_in : PartitionKey → Origin → Target → Moment → AltRow → AltRow
-with_proven_in key origin t until row = if is_row_of key origin row then record row { list = map (proven_from t until) row.list } else row
+abbrev pub with_marked_in : PartitionKey → Origin → Target → Mark → AltRow → AltRow
+with_marked_in key origin t m row = if is_row_of key origin row then record row { list = map (marked_at t m) row.list } else row
 
 abbrev pub without_target_in : PartitionKey → Origin → Target → AltRow → AltRow
 without_target_in key origin t row = if is_row_of key origin row then record row { list = filter (λ a. not (leads_to t a)) row.list } else row
@@ -67,14 +67,14 @@ without_target_in key origin t row = if is_row_of key origin row then record row
 -- RFC 7838, section 2.4, lets the origin be used where an alternative fails. For how long it counts as broken is
 -- this project's own
 unfoldable pub broken_alternatives : PartitionKey → Origin → Target → Moment → List AltRow → List AltRow
-broken_alternatives key origin t now rows = map (with_broken_in key origin t (later_by broken_for now)) rows
+broken_alternatives key origin t now rows = map (with_marked_in key origin t (mark.Broken (later_by broken_for now))) rows
 
 -- RFC 8164, section 2.3: the origin's http exchanges may use the alternative before this moment. How long a proof
 -- lasts, and that it is one for this service alone, is this project's own
 unfoldable pub proven_alternatives : PartitionKey → Origin → Target → Proof → List AltRow → List AltRow
 proven_alternatives key origin t proof.NotAsked rows = rows
 proven_alternatives key origin t (proof.NotValid why) rows = rows
-proven_alternatives key origin t (proof.Until m) rows = map (with_proven_in key origin t m) rows
+proven_alternatives key origin t (proof.Until m) rows = map (with_marked_in key origin t (mark.Proven m)) rows
 
 -- RFC 7838, section 6: the alternative said that it isn't one
 unfoldable pub dropped_alternatives : PartitionKey → Origin → Target → List AltRow → List AltRow

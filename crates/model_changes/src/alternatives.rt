@@ -12,6 +12,13 @@ use net_base::{Listed, Moment, NoMem, Origin, PlainValue, Target};
 use partition_keys::{AltUpdate, Alternative, Alternatives, PartitionKey, Proof};
 use std::alloc::Global;
 
+/// What is noted of an alternative: up to this moment it counts as broken, or http exchanges may use it.
+#[derive(Clone, Copy, Debug, PartialEq, Eq)]
+pub enum Mark {
+    Broken(Moment),
+    Proven(Moment),
+}
+
 /// A sum of moments, which stays at the greatest moment.
 fn later_by(n: u64, m: Moment) -> Moment
     ensures { result ≡ spec.later_by n m }
@@ -61,36 +68,27 @@ fn marked_as_before(
     }
 }
 
-/// A copy of the alternative, which counts as broken up to this moment where the target leads to it.
-fn broken_from(
-    alloc: Global,
-    t: &Target,
-    until: Moment,
-    a: &Alternative,
-) -> Result<Alternative, NoMem>
-    ensures { IfOk result (λ b. b ≡ spec.broken_from t.now until a.now) }
+/// The alternative is marked so.
+fn marked(mut a: Alternative, mark: Mark) -> Alternative
+    ensures { result ≡ spec.marked mark a }
 {
-    let mut marked = a.copy(alloc)?;
-    if leads_to(t, a) {
-        marked.broken_until = until;
+    match mark {
+        Mark::Broken(until) => a.broken_until = until,
+        Mark::Proven(until) => a.proven_until = until,
     }
-    Ok(marked)
+    a
 }
 
-/// A copy of the alternative, which http exchanges may use up to this moment where the target leads to it.
-fn proven_from(
-    alloc: Global,
-    t: &Target,
-    until: Moment,
-    a: &Alternative,
-) -> Result<Alternative, NoMem>
-    ensures { IfOk result (λ b. b ≡ spec.proven_from t.now until a.now) }
+/// A copy of the alternative, marked so where the target leads to it.
+fn marked_at(alloc: Global, t: &Target, mark: Mark, a: &Alternative) -> Result<Alternative, NoMem>
+    ensures { IfOk result (λ b. b ≡ spec.marked_at t.now mark a.now) }
 {
-    let mut marked = a.copy(alloc)?;
-    if leads_to(t, a) {
-        marked.proven_until = until;
-    }
-    Ok(marked)
+    let copy = a.copy(alloc)?;
+    Ok(if leads_to(t, a) {
+        marked(copy, mark)
+    } else {
+        copy
+    })
 }
 
 // ---- the alternatives of one origin
@@ -110,34 +108,18 @@ fn marked_list(
     Ok(all)
 }
 
-/// The list, where what the target leads to counts as broken up to this moment.
-fn broken_list(
+/// The list, where what the target leads to is marked so.
+fn list_marked_at(
     alloc: Global,
     t: &Target,
-    until: Moment,
+    mark: Mark,
     list: &[Alternative],
 ) -> Result<Alternatives, NoMem>
-    ensures { IfOk result (λ all. all ≡ map (spec.broken_from t.now until) list.now) }
+    ensures { IfOk result (λ all. all ≡ map (spec.marked_at t.now mark) list.now) }
 {
     let mut all = Listed::new();
     for a in list {
-        all.push(alloc, broken_from(alloc, t, until, a)?)?;
-    }
-    Ok(all)
-}
-
-/// The list, where http exchanges may use what the target leads to up to this moment.
-fn proven_list(
-    alloc: Global,
-    t: &Target,
-    until: Moment,
-    list: &[Alternative],
-) -> Result<Alternatives, NoMem>
-    ensures { IfOk result (λ all. all ≡ map (spec.proven_from t.now until) list.now) }
-{
-    let mut all = Listed::new();
-    for a in list {
-        all.push(alloc, proven_from(alloc, t, until, a)?)?;
+        all.push(alloc, marked_at(alloc, t, mark, a)?)?;
     }
     Ok(all)
 }
@@ -187,37 +169,19 @@ fn list_before<'a>(key: &PartitionKey, origin: &Origin, rows: &'a [AltRow]) -> &
     }
 }
 
-/// The alternative counts as broken, in the row of its origin.
-fn with_broken_in(
+/// The alternative is marked so, in the row of its origin.
+fn with_marked_in(
     alloc: Global,
     row: &mut AltRow,
     key: &PartitionKey,
     origin: &Origin,
     t: &Target,
-    until: Moment,
+    mark: Mark,
 ) -> Result<(), NoMem>
-    ensures { OnOk result (row.new ≡ spec.with_broken_in key.now origin.now t.now until row.old) }
+    ensures { OnOk result (row.new ≡ spec.with_marked_in key.now origin.now t.now mark row.old) }
 {
     if is_row_of(key, origin, row) {
-        let list = broken_list(alloc, t, until, row.list.as_slice())?;
-        row.list = list;
-    }
-    Ok(())
-}
-
-/// The alternative may be used by http exchanges, in the row of its origin.
-fn with_proven_in(
-    alloc: Global,
-    row: &mut AltRow,
-    key: &PartitionKey,
-    origin: &Origin,
-    t: &Target,
-    until: Moment,
-) -> Result<(), NoMem>
-    ensures { OnOk result (row.new ≡ spec.with_proven_in key.now origin.now t.now until row.old) }
-{
-    if is_row_of(key, origin, row) {
-        let list = proven_list(alloc, t, until, row.list.as_slice())?;
+        let list = list_marked_at(alloc, t, mark, row.list.as_slice())?;
         row.list = list;
     }
     Ok(())
@@ -325,19 +289,19 @@ pub fn updated_alternatives(
     }
 }
 
-/// In the row of this origin, the alternative counts as broken up to this moment.
-fn broken_until_in_all(
+/// In the row of this origin, the alternative is marked so.
+fn marked_in_all(
     alloc: Global,
     rows: &mut [AltRow],
     key: &PartitionKey,
     origin: &Origin,
     t: &Target,
-    until: Moment,
+    mark: Mark,
 ) -> Result<(), NoMem>
-    ensures { OnOk result (rows.new ≡ map (spec.with_broken_in key.now origin.now t.now until) rows.old) }
+    ensures { OnOk result (rows.new ≡ map (spec.with_marked_in key.now origin.now t.now mark) rows.old) }
 {
     for row in rows.iter_mut() {
-        with_broken_in(alloc, row, key, origin, t, until)?;
+        with_marked_in(alloc, row, key, origin, t, mark)?;
     }
     Ok(())
 }
@@ -354,24 +318,8 @@ pub fn broken_alternatives(
 ) -> Result<(), NoMem>
     ensures { OnOk result (rows.new ≡ spec.broken_alternatives key.now origin.now t.now now rows.old) }
 {
-    broken_until_in_all(alloc, rows, key, origin, t, later_by(BROKEN_FOR, now))
-}
-
-/// In the row of this origin, http exchanges may use the alternative up to this moment.
-fn proven_until_in_all(
-    alloc: Global,
-    rows: &mut [AltRow],
-    key: &PartitionKey,
-    origin: &Origin,
-    t: &Target,
-    until: Moment,
-) -> Result<(), NoMem>
-    ensures { OnOk result (rows.new ≡ map (spec.with_proven_in key.now origin.now t.now until) rows.old) }
-{
-    for row in rows.iter_mut() {
-        with_proven_in(alloc, row, key, origin, t, until)?;
-    }
-    Ok(())
+    let until = later_by(BROKEN_FOR, now);
+    marked_in_all(alloc, rows, key, origin, t, Mark::Broken(until))
 }
 
 /// The origin's http exchanges may use the alternative before the proven moment (RFC 8164, section 2.3).
@@ -389,7 +337,7 @@ pub fn proven_alternatives(
     match proof {
         Proof::NotAsked => Ok(()),
         Proof::NotValid(_) => Ok(()),
-        Proof::Until(m) => proven_until_in_all(alloc, rows, key, origin, t, m),
+        Proof::Until(m) => marked_in_all(alloc, rows, key, origin, t, Mark::Proven(m)),
     }
 }
 

@@ -7,7 +7,7 @@ mod connections;
 mod identity;
 
 pub use alternatives::{
-    broken_alternatives, dropped_alternatives, persistent_alternatives, proven_alternatives,
+    Mark, broken_alternatives, dropped_alternatives, persistent_alternatives, proven_alternatives,
     updated_alternatives,
 };
 pub use connections::{

@@ -21,7 +21,8 @@ use Rattle.partition_keys.specs.declared.alternative.Proof.{Proof}
 use Rattle.partition_keys.specs.declared.alternative.Proof.TheVariants as proof
 use Rattle.partition_keys.specs.declared.group.GroupKey.{GroupKey}
 use Rattle.partition_keys.specs.declared.key.PartitionKey.{PartitionKey}
-use Rattle.model_changes.specs.Alternatives.{marked_as_before, other_rows, with_list, updated_alternatives, with_broken_in, broken_alternatives, later_by, with_proven_in, proven_alternatives, without_target_in, dropped_alternatives, persistent_in, persistent_alternatives}
+use Rattle.model_changes.specs.declared.alternatives.Mark.TheVariants as mark
+use Rattle.model_changes.specs.Alternatives.{marked_as_before, other_rows, with_list, updated_alternatives, with_marked_in, broken_alternatives, later_by, proven_alternatives, without_target_in, dropped_alternatives, persistent_in, persistent_alternatives}
 use Rattle.model_histories.specs.Histories.{opening}
 use Rattle.model_histories.proofs.CauseLemmas.{by_identity, by_open, by_alt_seen, by_closed, by_want}
 use Rattle.model_steps.specs.After.{noted, after_submit, after_cancel, after_reprioritise, after_preconnect, after_resolved, after_network, after_shut, after_dial, after_orders, after_report, after_expire, after_lapse, after_assign, after_evict, sent_noted, after_act, after}
@@ -79,13 +80,13 @@ few_updated key origin (update.Set list) rows few = few_set key origin list rows
 
 few_broken : (key : PartitionKey) (origin : Origin) (t : Target) (s : AbstractPool) → AreFew s.alternatives → AreFew (broken_alternatives key origin t s.latest s.alternatives)
 unfolding broken_alternatives
-few_broken key origin t s few = few_map (with_broken_in key origin t (later_by 300000 s.latest)) s.alternatives few
+few_broken key origin t s few = few_map (with_marked_in key origin t (mark.Broken (later_by 300000 s.latest))) s.alternatives few
 
 few_proven : (key : PartitionKey) (origin : Origin) (t : Target) (given : Proof) (rows : List AltRow) → AreFew rows → AreFew (proven_alternatives key origin t given rows)
 unfolding proven_alternatives
 few_proven key origin t proof.NotAsked rows few = few
 few_proven key origin t (proof.NotValid why) rows few = few
-few_proven key origin t (proof.Until m) rows few = few_map (with_proven_in key origin t m) rows few
+few_proven key origin t (proof.Until m) rows few = few_map (with_marked_in key origin t (mark.Proven m)) rows few
 
 few_dropped : (key : PartitionKey) (origin : Origin) (t : Target) (rows : List AltRow) → AreFew rows → AreFew (dropped_alternatives key origin t rows)
 unfolding dropped_alternatives

@@ -26,7 +26,9 @@ use Rattle.partition_keys.specs.declared.alternative.Proof.{Proof}
 use Rattle.partition_keys.specs.declared.alternative.Proof.TheVariants as proof
 use Rattle.partition_keys.specs.declared.group.GroupKey.{GroupKey}
 use Rattle.partition_keys.specs.declared.key.PartitionKey.{PartitionKey}
-use Rattle.model_changes.specs.Alternatives.{marked_as_before, other_rows, with_list, updated_alternatives, broken_from, with_broken_in, broken_alternatives, later_by, proven_from, with_proven_in, proven_alternatives, leads_to, without_target_in, dropped_alternatives, persistent_in, persistent_alternatives}
+use Rattle.model_changes.specs.declared.alternatives.Mark.{Mark}
+use Rattle.model_changes.specs.declared.alternatives.Mark.TheVariants as mark
+use Rattle.model_changes.specs.Alternatives.{marked_as_before, other_rows, with_list, updated_alternatives, marked_at, with_marked_in, broken_alternatives, later_by, proven_alternatives, leads_to, without_target_in, dropped_alternatives, persistent_in, persistent_alternatives}
 use Rattle.model_laws.proofs.SameLemmas.{keys_are, origins_are}
 use Rattle.model_laws.specs.Sound.{RowsAreApart}
 use Rattle.model_histories.specs.Histories.{opening}
@@ -155,18 +157,20 @@ same_cond : (test : Bool) (x : AltRow) (list : List Alternative) → IsOfSame x 
 same_cond true x list = record { key = refl; origin = refl }
 same_cond false x list = same_row x
 
+-- of one origin, alternatives are marked
+apart_marked : (key : PartitionKey) (origin : Origin) (t : Target) (m : Mark) (rows : List AltRow) → AreOfOrigins rows → AreOfOrigins (map (with_marked_in key origin t m) rows)
+apart_marked key origin t m rows apart =
+    apart_lists (with_marked_in key origin t m) rows (λ x. same_cond (is_row_of key origin x) x (map (marked_at t m) x.list)) apart
+
 apart_broken : (key : PartitionKey) (origin : Origin) (t : Target) (s : AbstractPool) → AreOfOrigins s.alternatives → AreOfOrigins (broken_alternatives key origin t s.latest s.alternatives)
 unfolding broken_alternatives
-apart_broken key origin t s apart =
-    apart_lists (with_broken_in key origin t (later_by 300000 s.latest)) s.alternatives
-    (λ x. same_cond (is_row_of key origin x) x (map (broken_from t (later_by 300000 s.latest)) x.list)) apart
+apart_broken key origin t s apart = apart_marked key origin t (mark.Broken (later_by 300000 s.latest)) s.alternatives apart
 
 apart_proven : (key : PartitionKey) (origin : Origin) (t : Target) (given : Proof) (rows : List AltRow) → AreOfOrigins rows → AreOfOrigins (proven_alternatives key origin t given rows)
 unfolding proven_alternatives
 apart_proven key origin t proof.NotAsked rows apart = apart
 apart_proven key origin t (proof.NotValid why) rows apart = apart
-apart_proven key origin t (proof.Until m) rows apart =
-    apart_lists (with_proven_in key origin t m) rows (λ x. same_cond (is_row_of key origin x) x (map (proven_from t m) x.list)) apart
+apart_proven key origin t (proof.Until m) rows apart = apart_marked key origin t (mark.Proven m) rows apart
 
 apart_dropped : (key : PartitionKey) (origin : Origin) (t : Target) (rows : List AltRow) → AreOfOrigins rows → AreOfOrigins (dropped_alternatives key origin t rows)
 unfolding dropped_alternatives
