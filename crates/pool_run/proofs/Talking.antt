@@ -170,26 +170,16 @@ speaks_on first now after text old new s a =
 silent_on : (u v w : LinkView) (text put got more : List ℕ) (n : ℕ) → Spoke u v text put got → n ≡ length put → Spoke v w (drop n text) more [] → Spoke u w text (put ++ more) got
 silent_on u v w text put got more n s is t = rw append-nil at (spoke_on u v w text put got more [] n s is t)
 
--- a round that ended by a fault
-pub talks_fault : (first now after : LinkView) (text : List ℕ) (old new : Progress) → Speaks first now text old → IsOpen old.received → Turns now text old (Ok turn.Fault) after new
-    → Talks first text (Ok talk.Fault) after
-talks_fault first now after text old new s open_ t = (
+-- a round that ended, as one of the link's counts shows
+pub talks_ended : (count : LinkView → ℕ) (first now after : LinkView) (text : List ℕ) (old : Progress) → Speaks first now text old → IsOpen old.received → count first ≤ count now
+    → (put : List ℕ) × Spoke now after (drop old.sent text) put [] × Rose (count now) (count after)
+    → (put : List ℕ) × (got : List ℕ) × Spoke first after text put got × IsOpen got × Rose (count first) (count after)
+talks_ended count first now after text old s open_ before t = (
   s.put ++ t.0,
   old.received,
   silent_on first now after text s.put old.received t.0 old.sent s.spoke s.sent t.1,
   open_,
-  rose_later first.counts.faults now.counts.faults after.counts.faults s.spoke.did.keeps.counts.faults t.2,
-)
-
--- a round that ended by the end
-pub talks_end : (first now after : LinkView) (text : List ℕ) (old new : Progress) → Speaks first now text old → IsOpen old.received → Turns now text old (Ok turn.End) after new
-    → Talks first text (Ok talk.End) after
-talks_end first now after text old new s open_ t = (
-  s.put ++ t.0,
-  old.received,
-  silent_on first now after text s.put old.received t.0 old.sent s.spoke s.sent t.1,
-  open_,
-  rose_later first.counts.ends now.counts.ends after.counts.ends s.spoke.did.keeps.counts.ends t.2,
+  rose_later (count first) (count now) (count after) before t.2,
 )
 
 -- a round without memory

@@ -1,7 +1,7 @@
 use Rattle.std.proofs.Common.{inl, refl, ap, ◌∙◌, arith, Ok, Err}
 use Rattle.pool_run.specs.declared.conversation.Turn.TheVariants as turn
 use Rattle.pool_run.specs.declared.conversation.Next.TheVariants as next
-use Rattle.pool_run.proofs.Talking.{turn_is, next_is, speaks_first, speaks_within, speaks_going, talks_err, talks_none, talks_fault, talks_end, talks_octets, talks_quiet, talks_settled}
+use Rattle.pool_run.proofs.Talking.{turn_is, next_is, speaks_first, speaks_within, speaks_going, talks_err, talks_none, talks_ended, talks_octets, talks_quiet, talks_settled}
 use Rattle.pool_run.proofs.conversation.say.Goals as goal
 
 pub returns-in_err-take_turn : goal.returns-in_err-take_turn
@@ -34,13 +34,15 @@ returns-in-Quiet g c =
 
 pub returns-in-Fault : goal.returns-in-Fault
 returns-in-Fault g c =
+    let s = c.loop-round.invariant.0 in
     let t = turn_is _ _ _ _ _ _ (Ok turn.Fault) (c.in_ok-take_turn.was ∙ ap Ok c.in-Fault.is) c.take_turn.ensures in
-    talks_fault _ _ _ _ _ c.take_turn.new.progress c.loop-round.invariant.0 c.loop-round.invariant.2 t
+    talks_ended (λ v. v.counts.faults) _ _ _ _ _ s c.loop-round.invariant.2 s.spoke.did.keeps.counts.faults t
 
 pub returns-in-End : goal.returns-in-End
 returns-in-End g c =
+    let s = c.loop-round.invariant.0 in
     let t = turn_is _ _ _ _ _ _ (Ok turn.End) (c.in_ok-take_turn.was ∙ ap Ok c.in-End.is) c.take_turn.ensures in
-    talks_end _ _ _ _ _ c.take_turn.new.progress c.loop-round.invariant.0 c.loop-round.invariant.2 t
+    talks_ended (λ v. v.counts.ends) _ _ _ _ _ s c.loop-round.invariant.2 s.spoke.did.keeps.counts.ends t
 
 pub loop-round-init : goal.loop-round-init
 loop-round-init g c = (speaks_first _ _ _ refl c.new.ensures refl, omega arith, inl c.new.ensures)
