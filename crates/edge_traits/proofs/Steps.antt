@@ -1,6 +1,5 @@
 -- What calls of a link did, put together, and what a dialer's log says of them.
-use Rattle.std.proofs.Common.{◌≡◌, ℕ, zero, suc, ◌+◌, ◌-◌, ◌≤◌, List, [], ◌∷◌, ◌++◌, length, take, drop, Option, None, Some, slice_get, refl, sym, ap, ◌∙◌, arith, append_assoc, append-nil, length-append, length-take, length-drop, zero-add, suc-add}
-use Rattle.std.proofs.lemmas.Grind.{common_steps}
+use Rattle.std.proofs.Common.{◌≡◌, ℕ, ◌+◌, ◌≤◌, List, [], ◌∷◌, ◌++◌, length, take, Option, None, Some, slice_get, refl, sym, ap, ◌∙◌, arith, append_assoc, append-nil, length-append, length-take}
 use Rattle.net_base.specs.declared.target.Target.{Target}
 use Rattle.net_base.specs.declared.identity.Identity.{Identity}
 use Rattle.edge_traits.specs.Counts.{Rose, Counts, NoneFell, count_sum}
@@ -79,18 +78,6 @@ took_more u v w put got piece n d k t = record {
   written = grew_trans u.written v.written w.written put (take n piece) d.written t.written;
   received = grew_same u.received v.received got w.received d.received t.received;
 }
-
-take_more : {A : Type 0} (s : List A) (i n : ℕ) → take (i + n) s ≡ take i s ++ take n (drop i s)
-take_more [] i n = grind (arith, common_steps)
-take_more (x ∷ xs) zero n = rw zero-add refl
-take_more (x ∷ xs) (suc i) n = rw suc-add (ap (λ l. x ∷ l) (take_more xs i n))
-
--- what was written so far, and the front of the piece that is left
-pub piece_more : (s : List ℕ) (i n : ℕ) → n ≤ length (take (length s - i) (drop i s)) → take i s ++ take n (take (length s - i) (drop i s)) ≡ take (i + n) s
-piece_more s i n le = grind (arith, common_steps, take_more s i n)
-
-pub piece_fits : (s : List ℕ) (i n : ℕ) → i ≤ length s → n ≤ length (take (length s - i) (drop i s)) → i + n ≤ length s
-piece_fits s i n h le = omega (arith, length-take (length s - i) (drop i s), length-drop i s)
 
 -- a read that gave n octets comes after
 pub gave_more : (u v w : LinkView) (put got buffer : List ℕ) (size n : ℕ) → LinkDid u v put got → LinkKeeps v w → size ≡ length buffer → LinkGave v w size buffer n → LinkDid u w put (got ++ take n buffer)
