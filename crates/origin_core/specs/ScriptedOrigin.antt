@@ -4,7 +4,6 @@ use Rattle.std.specs.Prelude.{◌≡◌, ◌≤◌, ◌<◌, ℕ, Bool, true, fa
 use Rattle.net_base.specs.declared.peer.Peer.{Peer}
 use Rattle.origin_core.specs.declared.scripted_request.Asked.{Asked}
 use Rattle.origin_core.specs.declared.scripted_origin.ScriptedOrigin.{ScriptedOrigin}
-use Rattle.origin_core.specs.declared.scripted_origin.PutOctets.{PutOctets}
 use Rattle.origin_core.specs.declared.scripted_origin.Step.{Step}
 use Rattle.origin_core.specs.declared.scripted_origin.Step.TheVariants.{Answered, Unfinished, Unreadable}
 use Rattle.origin_core.specs.ScriptedRequests.{IsWhole, IsUnfinished, IsUnreadable}
@@ -35,10 +34,6 @@ StopsAt rest true = IsUnreadable rest
 abbrev pub Puts : Peer → List ℕ → List ℕ → Bool → Type 0
 Puts peer input put over =
     (answered : List ℕ) × (rest : List ℕ) × (input ≡ answered ++ rest) × AreAnswered peer answered put × StopsAt rest over
-
--- what was found is what the origin puts
-abbrev pub PutsAll : Peer → List ℕ → PutOctets → Type 0
-PutsAll peer input found = Puts peer input found.put found.over
 
 -- all that the origin put so far
 abbrev pub put_of : ScriptedOrigin → List ℕ

@@ -13,5 +13,5 @@ mod scripted_request;
 
 pub use inner_dialer::InnerDialer;
 pub use inner_link::InnerLink;
-pub use scripted_origin::{PutOctets, ScriptedOrigin, scripted_puts};
+pub use scripted_origin::ScriptedOrigin;
 pub use scripted_request::Asked;

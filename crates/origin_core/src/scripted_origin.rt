@@ -2,7 +2,7 @@
 ghost use Rattle.std.specs.Prelude.{◌≡◌, ◌≤◌, ℕ, List, [], length, drop, IfOk};
 ghost use Rattle.plain_values.specs.Fronts.{IsFrontOf};
 ghost use Rattle.net_base.specs.declared.peer.Peer.{Peer};
-ghost use Rattle.origin_core.specs.ScriptedOrigin.{Puts, IsOriginAt, StepIs, PutsAll};
+ghost use Rattle.origin_core.specs.ScriptedOrigin.{Puts, IsOriginAt, StepIs};
 
 use crate::scripted_answer::answer_to;
 use crate::scripted_request::{NextRequest, next_request};
@@ -17,31 +17,12 @@ pub struct ScriptedOrigin {
     put: Octets,
 }
 
-/// What an origin puts, and whether it is over: a request came that can't be read.
-#[derive(Debug, Drop)]
-pub struct PutOctets {
-    pub put: Octets,
-    pub over: bool,
-}
-
 /// What the next request did.
 #[derive(Clone, Copy)]
 pub(crate) enum Step {
     Answered,
     Unfinished,
     Unreadable,
-}
-
-/// What a scripted HTTP/1.1 origin of a peer puts for the octets that it received.
-pub fn scripted_puts(alloc: Global, peer: &Peer, input: &[u8]) -> Result<PutOctets, NoMem>
-    ensures { IfOk result (PutsAll peer.now input.now) }
-{
-    let mut origin = ScriptedOrigin::new();
-    let over = origin.answer(alloc, peer, input)?;
-    Ok(PutOctets {
-        put: origin.put,
-        over,
-    })
 }
 
 impl ScriptedOrigin {

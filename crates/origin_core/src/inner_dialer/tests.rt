@@ -1,5 +1,4 @@
 use super::InnerDialer;
-use crate::scripted_puts;
 use edge_traits::{Dialed, Dialer, Link, LinkRead, LinkWrite, NetKind};
 use net_base::{Answer, AnswerBody, ConnNo, Listed, NoMem, Octets, Peer, Proto, Target, Via};
 use std::alloc::Global;
@@ -61,8 +60,6 @@ fn a_link_gives_what_the_origin_puts(rt: HostRuntime) -> Result<(), Fail> {
     assert_eq!(rt; rest, *b"1 200 \r\ncontent-length: 3\r\n\r\nxxx\0");
     assert!(rt; matches!(link.read(alloc, &mut rest), LinkRead::End));
     dialer.retire(ConnNo(2), link);
-    let found = scripted_puts(alloc, &peer(alloc)?, text)?;
-    assert_eq!(rt; found.put.len(), 39);
     let elsewhere = target(alloc, 81)?;
     assert!(rt; matches!(dialer.dial(alloc, ConnNo(3), &elsewhere), Dialed::Failed));
     Ok(())
