@@ -1,4 +1,5 @@
 pub mod AgainLemmas
+pub mod AskedLemmas
 pub mod AssignedLemmas
 pub mod BeginLemmas
 pub mod CarriedLemmas

@@ -1,24 +1,19 @@
 -- The exchanges and the connections of a pool stay as many as there may be, behind each entry that may stand.
-use Rattle.std.proofs.Common.{◌≡◌, ◌<◌, ◌≤◌, ◌≢◌, ◌∙◌, ℕ, List, true, false, Option, Some, None, inl, inr, refl, sym, subst, arith, length, replicate, slice_get}
-use Rattle.std.specs.Prelude.{◌-◌, ◌==◌, ◌&&◌, not}
-use Rattle.std.proofs.lemmas.Bool.{cond_both, and_parts, ltb-true}
-use Rattle.std.proofs.lemmas.List.{length-map, length-append, length-replicate, length-set, length_push}
-use Rattle.net_base.specs.declared.end_cause.EndCause.{EndCause}
-use Rattle.net_base.specs.declared.identity.Identity.{Identity}
+use Rattle.std.proofs.Common.{◌≡◌, ◌<◌, ◌≤◌, ◌≢◌, ◌∙◌, ℕ, true, None, inl, inr, sym, ap, subst, arith, length, replicate}
+use Rattle.std.specs.Prelude.{◌-◌, ◌&&◌, not}
+use Rattle.std.proofs.lemmas.Bool.{and_parts, ltb-true}
+use Rattle.std.proofs.lemmas.List.{length-map, length-append, length-replicate, length_push}
 use Rattle.net_base.specs.declared.numbers.CallerNo.{CallerNo}
 use Rattle.net_base.specs.declared.numbers.ConnNo.{ConnNo}
 use Rattle.net_base.specs.declared.numbers.ExchangeNo.{ExchangeNo}
 use Rattle.net_base.specs.declared.numbers.Moment.{Moment}
-use Rattle.net_base.specs.declared.numbers.StreamNo.{StreamNo}
 use Rattle.net_base.specs.declared.target.Target.{Target}
-use Rattle.net_base.specs.declared.target.Via.{Via}
-use Rattle.net_base.specs.declared.target.Via.TheVariants as via
 use Rattle.partition_keys.specs.declared.group.GroupKey.{GroupKey}
 use Rattle.model_changes.specs.Connections.{new_connection}
+use Rattle.model_laws.proofs.AskedLemmas.{asked, IsSubmitting, same_act}
 use Rattle.model_laws.proofs.FitLemmas.{IsFit, fit_stand}
 use Rattle.model_laws.proofs.PresentLemmas.{adds_act, length_adds}
 use Rattle.model_laws.proofs.RoomLemmas.{plan_within}
-use Rattle.model_histories.proofs.CauseLemmas.{by_identity, by_open, by_alt_seen, by_closed, by_want}
 use Rattle.model_histories.proofs.EffectLemmas.{IsAdding}
 use Rattle.model_histories.proofs.RunLemmas.{config-after}
 use Rattle.model_histories.specs.Histories.{opening, MayStand}
@@ -27,103 +22,30 @@ use Rattle.model_histories.specs.Replies.{IsSubmitReply, IsPreconnectReply}
 use Rattle.model_settling.specs.Counts.{openings_of}
 use Rattle.model_settling.specs.Room.{is_eligible, expects_h2, has_open_h2, has_numbers, is_total_full, has_room_in, has_room_but_total, has_room, room_left, planned}
 use Rattle.model_settling.specs.Settling.{IsDue, IsWant, can_open}
-use Rattle.model_steps.specs.Answered.{answered, after_answered}
-use Rattle.model_steps.specs.Goaway.{left_out}
-use Rattle.model_steps.specs.Lost.{lost, after_lost, after_closed}
-use Rattle.model_steps.specs.Opened.{ended_for, after_useless}
-use Rattle.model_steps.specs.StreamEnds.{refused, ended_at}
-use Rattle.model_steps.specs.After.{noted, after_submit, after_cancel, after_reprioritise, after_preconnect, after_resolved, after_network, after_shut, after_dial, after_orders, after_report, after_expire, after_lapse, after_assign, wanted_connection, after_want_of, after_want, after_evict, sent_noted, after_act, after}
-use Rattle.model_steps.specs.Exchanges.{new_exchange, with_status, ended_by, with_urgency, timed_out, ended_unless, ended_if_waiting, handed_by}
+use Rattle.model_steps.specs.After.{noted, after_submit, after_preconnect, wanted_connection, after_want_of, after_want, after_act, after}
+use Rattle.model_steps.specs.Exchanges.{new_exchange}
 use Rattle.model_authority.proofs.NumberLemmas.{passing}
-use Rattle.model_authority.specs.Lists.{with_item, edit}
 use Rattle.model_authority.specs.Ways.{group_of, group_for}
 use Rattle.model_values.specs.declared.config.Config.{Config}
 use Rattle.model_values.specs.declared.entry.Act.{Act}
-use Rattle.model_values.specs.declared.entry.Act.TheVariants.{Submit, Cancel, Reprioritise, Preconnect, Resolved, Shutdown, Orders, Reported, Closed, Expire, Lapse, Assign, Want}
+use Rattle.model_values.specs.declared.entry.Act.TheVariants.{Submit, Preconnect, Want}
 use Rattle.model_values.specs.declared.entry.Entry.{Entry}
-use Rattle.model_values.specs.declared.outcome.Outcome.{Outcome}
-use Rattle.model_values.specs.declared.outcome.Outcome.TheVariants as outcome
-use Rattle.model_values.specs.declared.reply.CancelReply.TheVariants as cancel
-use Rattle.model_values.specs.declared.reply.ChangeReply.TheVariants as change
 use Rattle.model_values.specs.declared.reply.PreconnectReply.{PreconnectReply}
 use Rattle.model_values.specs.declared.reply.PreconnectReply.TheVariants as preconnect
-use Rattle.model_values.specs.declared.reply.ResolvedReply.TheVariants as resolved
-use Rattle.model_values.specs.declared.reply.ShutReply.TheVariants as shut
 use Rattle.model_values.specs.declared.reply.SubmitReply.{SubmitReply}
 use Rattle.model_values.specs.declared.reply.SubmitReply.TheVariants as submit
-use Rattle.model_values.specs.declared.report.Report.{Report}
-use Rattle.model_values.specs.declared.report.Report.TheVariants as report
 use Rattle.model_values.specs.declared.state.AbstractPool.{AbstractPool}
 use Rattle.model_values.specs.declared.state.Connection.{Connection}
 use Rattle.model_values.specs.declared.state.Exchange.{Exchange}
-use Rattle.model_values.specs.declared.state.Status.TheVariants.{Leased}
 use Rattle.model_values.specs.declared.submission.Submission.{Submission}
-
--- ---- lists that stay as long as they are
-
-length_item : {A : Type 0} (xs : List A) (i : ℕ) (f : A → A) (o : Option A) → length (with_item xs i f o) ≡ length xs
-length_item xs i f None = refl
-length_item xs i f (Some x) = length-set xs i (f x)
-
-length_edit : {A : Type 0} (number : ℕ) (f : A → A) (xs : List A) → length (edit number f xs) ≡ length xs
-unfolding edit
-length_edit number f xs =
-    cond_both (number == 0) xs (with_item xs (number - 1) f (slice_get xs (number - 1))) (λ ys. length ys ≡ length xs)
-    (λ first. refl) (λ later. length_item xs (number - 1) f (slice_get xs (number - 1)))
-
-length_ended : (wanted_for : Option ExchangeNo) (how : Outcome) (es : List Exchange) → length (ended_for wanted_for how es) ≡ length es
-length_ended None how es = refl
-length_ended (Some e) how es = length_edit e.0 (ended_if_waiting how) es
 
 -- ---- entries that add no exchange
 
 -- the later pool has as many exchanges
-abbrev AsMany : AbstractPool → AbstractPool → Type 0
-AsMany s t = length t.exchanges ≡ length s.exchanges
-
-many_useless : (s : AbstractPool) (g : GroupKey) (wanted_for : Option ExchangeNo) (how : Outcome) (v : Via) → AsMany s (after_useless s g wanted_for how v)
-many_useless s g wanted_for how via.Direct = length_ended wanted_for how s.exchanges
-many_useless s g wanted_for how (via.Alternative p) = refl
-
-many_report : (s : AbstractPool) (conn : ConnNo) (r : Report) → AsMany s (after_report s conn r)
-unfolding after_answered
-many_report s conn (report.Opened id) =
-    by_open (AsMany s) s conn id
-    (λ c. by_identity (AsMany s) s conn c.group c.wanted_for id (many_useless s c.group c.wanted_for (outcome.Identity conn) c.group.target.via) refl) refl
-many_report s conn (report.Answered r response keep alt proof) = length-map s.exchanges (answered conn r response)
-many_report s conn (report.Refused r) = length-map s.exchanges (refused conn r)
-many_report s conn (report.Reset r code) = length-map s.exchanges (ended_at conn r (outcome.Reset code))
-many_report s conn (report.TooLarge r) = length-map s.exchanges (ended_at conn r outcome.TooLarge)
-many_report s conn (report.Goaway last) = length-map s.exchanges (left_out conn last)
-many_report s conn (report.AltSeen origin alt) = by_alt_seen (AsMany s) s conn origin alt (λ c. refl) refl
-many_report s conn _ = refl
-
-many_closed : (s : AbstractPool) (conn : ConnNo) (end : EndCause) (heard : List StreamNo) → AsMany s (after_closed s conn end heard)
-many_closed s conn end heard =
-    let left : AbstractPool = after_lost s conn end heard in
-    let ended : AsMany s left = length-map s.exchanges (lost conn end heard) in
-    by_closed (AsMany s) s conn end heard (λ c. many_useless left c.group c.wanted_for (outcome.DialFault conn) c.group.target.via ∙ ended) ended
-
-abbrev IsSubmitting : Act → Type 0
-IsSubmitting (Submit ask reply) = Unit {0}
-IsSubmitting _ = ⊥
-
-many_act : (s : AbstractPool) (who : CallerNo) (act : Act) → (IsSubmitting act → ⊥) → AsMany s (after_act s who act)
-unfolding after_cancel after_reprioritise after_preconnect after_resolved after_network after_shut after_dial after_orders after_expire after_lapse after_assign after_evict
-many_act s who (Submit ask reply) none = absurd (none tt)
-many_act s who (Cancel e cancel.Cancelled) none = length_edit e.0 (ended_by outcome.Cancelled) s.exchanges
-many_act s who (Reprioritise e urgency change.Changed) none = length_edit e.0 (with_urgency urgency) s.exchanges
-many_act s who (Preconnect key credentials origin count (preconnect.Opening k)) none = refl
-many_act s who (Resolved key host addresses resolved.Noted) none = refl
-many_act s who (Shutdown shut.Noted) none = length-map s.exchanges (ended_unless outcome.PoolClosed)
-many_act s who (Orders c sent orders) none = length-map s.exchanges (handed_by c orders)
-many_act s who (Reported c sent r) none = many_report (sent_noted s c sent) c r
-many_act s who (Closed c sent end heard) none = many_closed (sent_noted s c sent) c end heard
-many_act s who (Expire e) none = length_edit e.0 timed_out s.exchanges
-many_act s who (Lapse e) none = length_edit e.0 (ended_by outcome.NoAlternative) s.exchanges
-many_act s who (Assign e c r way) none = length_edit e.0 (with_status (Leased c r way false)) s.exchanges
-many_act s who (Want e c t) none = by_want (AsMany s) s e t (λ x. refl) refl
-many_act s who _ none = refl
+many_act : (s : AbstractPool) (who : CallerNo) (act : Act) → (IsSubmitting act → ⊥) → length (after_act s who act).exchanges ≡ length s.exchanges
+many_act s who act none =
+    let t : AbstractPool = after_act s who act in
+    sym (length-map t.exchanges asked) ∙ ap (λ xs. length xs) (same_act s who act none) ∙ length-map s.exchanges asked
 
 -- ---- entries that add some
 

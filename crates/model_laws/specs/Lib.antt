@@ -8,4 +8,5 @@ pub mod MoveLaws
 pub mod PlaceLaws
 pub mod SettlingLaws
 pub mod Sound
+pub mod TextLaws
 pub mod WorkerLaws

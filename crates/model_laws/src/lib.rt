@@ -14,4 +14,5 @@ pub mod moves;
 pub mod places;
 pub mod settling;
 pub mod sound;
+pub mod texts;
 pub mod workers;
