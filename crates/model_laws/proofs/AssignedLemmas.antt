@@ -241,7 +241,7 @@ keeps_apart config h n e x c r by comes is =
 
 -- ---- alternatives
 
-h2_is : (p : Proto) → IsTrue (is_h2 p) → p ≡ H2
+pub h2_is : (p : Proto) → IsTrue (is_h2 p) → p ≡ H2
 h2_is H1 h = absurd cc
 h2_is H2 h = refl
 
@@ -289,7 +289,7 @@ sharing_for now x y a h =
     ]
 
 -- the state's latest moment is the greatest one so far
-latest_is : (config : Config) (h : List Entry) (n : ℕ) → (state_at config h n).latest ≡ moment_at h n
+pub latest_is : (config : Config) (h : List Entry) (n : ℕ) → (state_at config h n).latest ≡ moment_at h n
 latest_is config h n = let whole : ℕ → Moment = λ k. record { 0 = k } in ap whole (latest-run config (take n h))
 
 pub alternatives_are_fresh : AlternativesAreFresh

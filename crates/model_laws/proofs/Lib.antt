@@ -5,6 +5,7 @@ pub mod BeginLemmas
 pub mod CarriedLemmas
 pub mod CountLemmas
 pub mod CourseLemmas
+pub mod DialedLemmas
 pub mod EndedLemmas
 pub mod ExchangeSteps
 pub mod ExchangesAfter
@@ -33,5 +34,6 @@ pub mod StartLemmas
 pub mod StartSteps
 pub mod StayLemmas
 pub mod TurnLemmas
+pub mod WantedLemmas
 pub mod WorkerLemmas
 pub mod YieldLemmas

@@ -1,6 +1,7 @@
 pub mod AlternativeLaws
 pub mod ApartLaws
 pub mod Courses
+pub mod DialLaws
 pub mod EndLaws
 pub mod LeaseLaws
 pub mod LimitLaws

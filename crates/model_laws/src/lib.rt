@@ -7,6 +7,7 @@
 #![tactic(auto)]
 
 pub mod assigns;
+pub mod dials;
 pub mod ends;
 pub mod leases;
 pub mod limits;
