@@ -1,10 +1,10 @@
 -- What an entry leaves of each connection: one record of what any change leaves of a connection that neither dials, opens nor
 -- ends it, gives it a stream or takes its orders, and for each act what becomes of the connections.
 use Rattle.std.proofs.Common.{[], ◌≡◌, ◌≤◌, ◌<◌, ℕ, List, ◌∷◌, ◌++◌, Option, Some, None, Bool, true, false, All, inl, inr, refl, sym, ap, subst, ◌∙◌, arith, length, filter, replicate, is_some}
-use Rattle.std.specs.Prelude.{◌==◌, ◌&&◌, ◌||◌, not, if◌then◌else◌}
+use Rattle.std.specs.Prelude.{◌==◌, ◌&&◌, ◌||◌, not, if◌then◌else◌, Contains}
 use Rattle.std.proofs.lemmas.Bool.{cases_eq, cond_both}
 use Rattle.std.proofs.lemmas.Grind.{flat_map-append}
-use Rattle.std.proofs.lemmas.List.Elements.{All-nil, All-cons, All-head, All-tail, All-append}
+use Rattle.std.proofs.lemmas.List.Elements.{All-nil, All-cons, All-head, All-tail, All-append, All-filter, All-contains, All-contains_itself, Contains-push_cases}
 use Rattle.std.proofs.lemmas.List.Sums.{length-filter, count_by-le-length}
 use Rattle.net_base.specs.declared.end_cause.EndCause.{EndCause}
 use Rattle.net_base.specs.declared.identity.Identity.{Identity}
@@ -85,6 +85,19 @@ fewer_orders test (mark.Close ∷ ms) n h =
 reset_orders : (r : StreamNo) (ms : List OrderMark) → OrdersNoMore ms (ms ++ mark.Reset r ∷ [])
 reset_orders r ms n h = subst (All (Below n)) (sym (flat_map-append started_by ms (mark.Reset r ∷ []))) (All-append (Below n) (streams_started ms) [] h (All-nil (Below n)))
 
+-- each start that is ordered was ordered before
+abbrev pub StartsNoOther : List OrderMark → List OrderMark → Type 0
+StartsNoOther ms os = (e : ExchangeNo) (r : StreamNo) → Contains os (mark.Start e r) → Contains ms (mark.Start e r)
+
+fewer_starts : (test : OrderMark → Bool) (ms : List OrderMark) → StartsNoOther ms (filter test ms)
+fewer_starts test ms e r h = All-contains (λ m. Contains ms m) (filter test ms) (mark.Start e r) (All-filter test (λ m. Contains ms m) ms (All-contains_itself ms)) h
+
+reset_starts : (t : StreamNo) (ms : List OrderMark) → StartsNoOther ms (ms ++ mark.Reset t ∷ [])
+reset_starts t ms e r h = elim (Contains-push_cases ms (mark.Reset t) (mark.Start e r) h) [ inl before ↦ before | inr same ↦ absurd cc ]
+
+close_starts : (ms : List OrderMark) → StartsNoOther ms (mark.Close ∷ [])
+close_starts ms e r h = elim (Contains-push_cases [] mark.Close (mark.Start e r) h) [ inl none ↦ absurd (omega (arith, none.1)) | inr same ↦ absurd cc ]
+
 fewer_streams : (test : StreamNo → Bool) (rs : List StreamNo) → length (filter test rs) ≤ length rs
 fewer_streams test rs = omega (arith, length-filter test rs, count_by-le-length test rs)
 
@@ -130,19 +143,21 @@ pub record Leaves (x y : Connection) : Type 0 where
   pub phase : goes_on x.phase y.phase ≡ true
   pub live : length y.live ≤ length x.live
   pub ordered : OrdersNoMore x.orders y.orders
+  pub starts : StartsNoOther x.orders y.orders
   pub closing : (is_closing x.phase ≡ true → streams_started x.orders ≡ []) → is_closing y.phase ≡ true → streams_started y.orders ≡ []
 
-leaves_fewer : (x y : Connection) → lasting y ≡ lasting x → y.phase ≡ x.phase → length y.live ≤ length x.live → OrdersNoMore x.orders y.orders → Leaves x y
-leaves_fewer x y lasts phase live ordered = record {
+leaves_fewer : (x y : Connection) → lasting y ≡ lasting x → y.phase ≡ x.phase → length y.live ≤ length x.live → OrdersNoMore x.orders y.orders → StartsNoOther x.orders y.orders → Leaves x y
+leaves_fewer x y lasts phase live ordered starts = record {
   lasts = lasts;
   phase = goes_same x.phase y.phase phase;
   live = live;
   ordered = ordered;
+  starts = starts;
   closing = λ none t. orders_none x.orders y.orders ordered (none (ap (λ (p : Phase). is_closing p) (sym phase) ∙ t));
 }
 
 pub leaves_same : (c : Connection) → Leaves c c
-leaves_same c = leaves_fewer c c refl refl (omega arith) (λ n h. h)
+leaves_same c = leaves_fewer c c refl refl (omega arith) (λ n h. h) (λ e r h. h)
 
 leaves_trans : (x y z : Connection) → Leaves x y → Leaves y z → Leaves x z
 leaves_trans x y z k l =
@@ -153,6 +168,7 @@ leaves_trans x y z k l =
       phase = goes_trans x.phase y.phase z.phase k.phase l.phase;
       live = omega arith;
       ordered = λ n h. l.ordered n (k.ordered n h);
+      starts = λ e r h. k.starts e r (l.starts e r h);
       closing = λ none. l.closing (k.closing none);
     }
 
@@ -166,6 +182,7 @@ leaves_closing c =
       phase = or_else (λ p. false) (λ p. is_closing p || is_gone p) (λ p. goes_on p Closing) refl c.phase refl f;
       live = omega arith;
       ordered = λ n h. All-nil (Below n);
+      starts = close_starts c.orders;
       closing = λ none t. refl;
     })
 
@@ -173,7 +190,7 @@ leaves_idle : (now : Moment) (c : Connection) → Leaves c (idle_from now c)
 unfolding idle_from
 leaves_idle now c =
     let idle : Connection = record c { idle_since = now } in
-    let same : Leaves c idle = leaves_fewer c idle refl refl (omega arith) (λ n h. h) in
+    let same : Leaves c idle = leaves_fewer c idle refl refl (omega arith) (λ n h. h) (λ e r h. h) in
     cond_both (is_draining c.phase) (closing idle) idle (Leaves c) (λ t. leaves_trans c idle (closing idle) same (leaves_closing idle)) (λ f. same)
 
 -- from one with the same phase on, whose live streams may have run out
@@ -185,19 +202,19 @@ leaves_without_stream : (now : Moment) (r : StreamNo) (c : Connection) → Leave
 unfolding without_stream
 leaves_without_stream now r c =
     let less : Connection = record c { live = other_streams r c.live } in
-    leaves_run_out now c less (leaves_fewer c less refl refl (fewer_streams _ c.live) (λ n h. h))
+    leaves_run_out now c less (leaves_fewer c less refl refl (fewer_streams _ c.live) (λ n h. h) (λ e r h. h))
 
 pub leaves_without_start : (now : Moment) (r : StreamNo) (c : Connection) → Leaves c (without_start now r c)
 unfolding without_start
 leaves_without_start now r c =
     let less : Connection = record c { live = other_streams r c.live; orders = filter (λ m. not (is_start_of r m)) c.orders } in
-    leaves_run_out now c less (leaves_fewer c less refl refl (fewer_streams _ c.live) (fewer_orders (λ m. not (is_start_of r m)) c.orders))
+    leaves_run_out now c less (leaves_fewer c less refl refl (fewer_streams _ c.live) (fewer_orders (λ m. not (is_start_of r m)) c.orders) (fewer_starts (λ m. not (is_start_of r m)) c.orders))
 
 pub leaves_without_exchange : (r : StreamNo) (c : Connection) → Leaves c (without_exchange r c)
 unfolding without_exchange
 leaves_without_exchange r c =
     let told : Connection = record c { orders = c.orders ++ mark.Reset r ∷ [] } in
-    cond_both (speaks_h2 c) told (closing c) (Leaves c) (λ t. leaves_fewer c told refl refl (omega arith) (reset_orders r c.orders)) (λ f. leaves_closing c)
+    cond_both (speaks_h2 c) told (closing c) (Leaves c) (λ t. leaves_fewer c told refl refl (omega arith) (reset_orders r c.orders) (reset_starts r c.orders)) (λ f. leaves_closing c)
 
 leaves_kept_open : (keep : Bool) (c left : Connection) → Leaves c left → Leaves c (kept_open keep left)
 leaves_kept_open true c left k = k
@@ -207,14 +224,14 @@ leaves_after_answer : (now : Moment) (r : StreamNo) (keep : Bool) (c : Connectio
 unfolding after_answer
 leaves_after_answer now r keep c =
     let less : Connection = without_reset r c in
-    let fewer : Leaves c less = leaves_fewer c less refl refl (omega arith) (fewer_orders (λ m. not (is_reset_of r m)) c.orders) in
+    let fewer : Leaves c less = leaves_fewer c less refl refl (omega arith) (fewer_orders (λ m. not (is_reset_of r m)) c.orders) (fewer_starts (λ m. not (is_reset_of r m)) c.orders) in
     leaves_kept_open keep c (without_stream now r less) (leaves_trans c less (without_stream now r less) fewer (leaves_without_stream now r less))
 
 leaves_excluding : (response : Response) (lease : Option Exchange) (c : Connection) → Leaves c (excluding_misdirected response lease c)
 leaves_excluding response None c = leaves_same c
 leaves_excluding response (Some e) c =
     let without : Connection = excluding e.ask.request.origin c in
-    cond_both (is_misdirected response e) without c (Leaves c) (λ t. leaves_fewer c without refl refl (omega arith) (λ n h. h)) (λ f. leaves_same c)
+    cond_both (is_misdirected response e) without c (Leaves c) (λ t. leaves_fewer c without refl refl (omega arith) (λ n h. h) (λ e r h. h)) (λ f. leaves_same c)
 
 leaves_answered : (now : Moment) (r : StreamNo) (response : Response) (keep : Bool) (lease : Option Exchange) (c : Connection) →
     Leaves c (answered_connection now r response keep lease c)
@@ -234,6 +251,7 @@ leaves_draining c =
       phase = follows is_open (λ p. goes_on p Draining) refl c.phase t;
       live = omega arith;
       ordered = λ n h. h;
+      starts = λ e r h. h;
       closing = λ none t. absurd cc;
     })
     (λ f. leaves_same c)
@@ -243,7 +261,7 @@ unfolding going_away
 leaves_going_away now conn es last c =
     let less : Connection = record c { live = streams_left conn es last c.live; orders = filter (λ m. not (is_start m)) c.orders } in
     let left : Connection = idle_if_run_out now c less in
-    let k : Leaves c left = leaves_run_out now c less (leaves_fewer c less refl refl (fewer_streams _ c.live) (fewer_orders (λ m. not (is_start m)) c.orders)) in
+    let k : Leaves c left = leaves_run_out now c less (leaves_fewer c less refl refl (fewer_streams _ c.live) (fewer_orders (λ m. not (is_start m)) c.orders) (fewer_starts (λ m. not (is_start m)) c.orders)) in
     cond_both (is_nil left.live) (closing left) (draining left) (Leaves c)
     (λ t. leaves_trans c left (closing left) k (leaves_closing left)) (λ f. leaves_trans c left (draining left) k (leaves_draining left))
 
@@ -257,6 +275,7 @@ leaves_after_shutdown c =
       phase = follows is_wanted (λ p. goes_on p Gone) refl c.phase w;
       live = omega arith;
       ordered = λ n h. h;
+      starts = λ e r h. h;
       closing = λ none t. absurd cc;
     })
     (λ f. cond_both (is_open c.phase || is_draining c.phase) (closing c) c (Leaves c) (λ t. leaves_closing c) (λ g. leaves_same c))
@@ -432,7 +451,7 @@ one_open s c id = by (numbered c.0 s.connections) refl
 one_reported : (s : AbstractPool) (c : ConnNo) (r : Report) → OneBecomes (IsReported s r) c.0 s.connections (after_report s c r).connections
 unfolding after_answered
 one_reported s c (report.Opened id) = one_open s c id
-one_reported s c (report.Limit n) = one_edit Leaves c.0 (with_limit n) s.connections (λ x. leaves_fewer x (with_limit n x) refl refl (omega arith) (λ m h. h))
+one_reported s c (report.Limit n) = one_edit Leaves c.0 (with_limit n) s.connections (λ x. leaves_fewer x (with_limit n x) refl refl (omega arith) (λ m h. h) (λ e r h. h))
 one_reported s c (report.Answered r response keep alt proof) =
     one_edit Leaves c.0 (answered_connection s.latest r response keep (lease_at s c r)) s.connections (leaves_answered s.latest r response keep (lease_at s c r))
 one_reported s c (report.Refused r) = one_edit Leaves c.0 (without_stream s.latest r) s.connections (leaves_without_stream s.latest r)

@@ -259,7 +259,7 @@ numbered_last xs y number is =
     let e : number ≡ suc (length xs) = omega arith in
     ap (λ k. numbered k (xs ++ y ∷ [])) e ∙ numbered_at (xs ++ y ∷ []) (length xs) ∙ last_place xs y
 
-numbered_front : {A : Type 0} (number : ℕ) (xs ys : List A) (x : A) → numbered number xs ≡ Some x → numbered number (xs ++ ys) ≡ Some x
+pub numbered_front : {A : Type 0} (number : ℕ) (xs ys : List A) (x : A) → numbered number xs ≡ Some x → numbered number (xs ++ ys) ≡ Some x
 numbered_front number xs ys x is = append_at (λ o p. o ≡ Some x → p ≡ Some x) number xs ys (λ o e. e) (λ i y at e. absurd cc) is
 
 abbrev asks_as : CallerNo → Submission → Asked

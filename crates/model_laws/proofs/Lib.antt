@@ -13,9 +13,11 @@ pub mod FewLemmas
 pub mod FitLemmas
 pub mod GoneLemmas
 pub mod MoveLemmas
+pub mod OrderLemmas
 pub mod OrderlyLemmas
 pub mod OrderlySteps
 pub mod OverlapLemmas
+pub mod PendingLemmas
 pub mod PlaceLemmas
 pub mod PresentLemmas
 pub mod ReleaseLemmas

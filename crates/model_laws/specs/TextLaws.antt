@@ -1,13 +1,22 @@
--- What is read off a history, and what the state says of the same.
-use Rattle.std.specs.Prelude.{◌≡◌, ◌<◌, ◌+◌, ⊤, ℕ, List, Option, Some, None, length, take}
+-- What is read off a history, and what the state says of the same: submissions, and the orders of a connection.
+use Rattle.std.specs.Prelude.{◌≡◌, ◌<◌, ◌≤◌, ◌+◌, ⊤, ℕ, List, [], ◌∷◌, Option, Some, None, Contains, if◌then◌else◌, length, take}
+use Rattle.std.specs.List.{flat_map}
+use Rattle.net_base.specs.Dressing.{dressed_for}
+use Rattle.net_base.specs.declared.numbers.ConnNo.{ConnNo}
 use Rattle.net_base.specs.declared.numbers.ExchangeNo.{ExchangeNo}
-use Rattle.model_laws.specs.Courses.{state_at, Comes, OfExchange}
+use Rattle.net_base.specs.declared.target.Target.{Target}
+use Rattle.model_laws.specs.Courses.{state_at, Comes, OfExchange, OfBoth}
 use Rattle.model_histories.specs.Histories.{run}
-use Rattle.model_histories.specs.Reading.{submissions_of}
+use Rattle.model_histories.specs.Reading.{submissions_of, order_of, orders_of, is_about, Own, own_of}
 use Rattle.model_values.specs.declared.config.Config.{Config}
-use Rattle.model_values.specs.declared.entry.Act.TheVariants.{Submit}
+use Rattle.model_values.specs.declared.entry.Act.TheVariants.{Submit, Dial, Orders}
 use Rattle.model_values.specs.declared.entry.Entry.{Entry}
+use Rattle.model_values.specs.declared.order.Order.{Order}
+use Rattle.model_values.specs.declared.order.Order.TheVariants as order
+use Rattle.model_values.specs.declared.order.OrderMark.{OrderMark}
+use Rattle.model_values.specs.declared.order.OrderMark.TheVariants as mark
 use Rattle.model_values.specs.declared.reply.SubmitReply.TheVariants as submit
+use Rattle.model_values.specs.declared.state.AbstractPool.{AbstractPool}
 use Rattle.model_values.specs.declared.state.Exchange.{Exchange}
 use Rattle.model_values.specs.declared.submission.Submission.{Submission}
 use Rattle.model_authority.specs.Lists.{numbered}
@@ -42,3 +51,34 @@ abbrev pub AcceptedOnesAreExchanges : Type 0
 AcceptedOnesAreExchanges =
     (config : Config) (h : List Entry) (n m : ℕ) (x : Entry) (ask : Submission) (e : ExchangeNo) →
     Comes config h n x → x.act ≡ Submit ask (submit.Accepted e) → n < m → IsTaken config h n m x ask e
+
+-- ---- orders
+
+-- what a mark tells the connection, as the state says it: a start sends the request of its exchange, dressed for the target of the
+-- connection's group (RFC 7838, section 5)
+abbrev pub IsToldAt : AbstractPool → ConnNo → OrderMark → Order → Type 0
+IsToldAt s c (mark.Start e r) told = OfBoth s e c (λ exchange connection. told ≡ order.Start e r (dressed_for exchange.ask.request connection.group.target) exchange.ask.probe)
+IsToldAt s c (mark.Reset r) told = told ≡ order.Reset r
+IsToldAt s c mark.Close told = told ≡ order.Close
+
+-- the mark has one order, that of the state after the first n entries, read with these in hand and with any more of the history
+pub record HasOneOrder (config : Config) (h : List Entry) (n : ℕ) (c : ConnNo) (m : OrderMark) : Type 0 where
+  pub told : Order
+  pub is_told : IsToldAt (state_at config h n) c m told
+  pub is_read : (k : ℕ) → n ≤ k → order_of (take k h) c m ≡ told ∷ []
+
+-- at each Orders of a history
+abbrev pub MarksHaveOneOrder : Type 0
+MarksHaveOneOrder =
+    (config : Config) (h : List Entry) (n : ℕ) (x : Entry) (c : ConnNo) (sent : ℕ) (orders : List OrderMark) (m : OrderMark) →
+    Comes config h n x → x.act ≡ Orders c sent orders → Contains orders m → HasOneOrder config h n c m
+
+-- the orders that an entry of a caller gives, where it is about this connection
+abbrev pub given_to : ConnNo → Own → List Order
+given_to c own = if is_about c own.entry.act then own.orders else []
+
+-- in a history the orders of a connection are those that the entries of its dialer give, in order
+abbrev pub OrdersAreTheDialers : Type 0
+OrdersAreTheDialers =
+    (config : Config) (h : List Entry) (n : ℕ) (x : Entry) (c : ConnNo) (goes_to : Target) →
+    Comes config h n x → x.act ≡ Dial c goes_to → orders_of h c ≡ flat_map (given_to c) (own_of h x.who)

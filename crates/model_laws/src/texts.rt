@@ -1,5 +1,5 @@
 // What is read off a history, and what the state says of the same.
-ghost use Rattle.model_laws.specs.TextLaws.{ExchangesAreSubmissions, AcceptedOnesAreExchanges};
+ghost use Rattle.model_laws.specs.TextLaws.{ExchangesAreSubmissions, AcceptedOnesAreExchanges, MarksHaveOneOrder, OrdersAreTheDialers};
 
 /// Behind any entries the exchange of a number is the accepted submission of that number, but for its urgency, or there is
 /// neither.
@@ -12,4 +12,15 @@ pub fn exchanges_are_submissions()
 /// is its caller's and asks for it.
 pub fn accepted_ones_are_exchanges()
     ensures { AcceptedOnesAreExchanges }
+{}
+
+/// At each Orders of a history each mark has one order: a start that of its exchange's request, dressed for the target of the
+/// connection's group. It is read with the entries before, and stays the same with any more of the history.
+pub fn marks_have_one_order()
+    ensures { MarksHaveOneOrder }
+{}
+
+/// In a history the orders of a connection are those that the entries of the one who dials it give, in order.
+pub fn orders_are_the_dialers()
+    ensures { OrdersAreTheDialers }
 {}
