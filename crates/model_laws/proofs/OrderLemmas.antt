@@ -1,12 +1,13 @@
--- Each mark of an Orders of a history has one order, which no further entry changes; and who dials a connection takes them all.
-use Rattle.std.proofs.Common.{◌≡◌, ◌≢◌, ◌≤◌, ℕ, suc, List, [], ◌∷◌, ◌++◌, Option, Some, None, Bool, true, false, cond, refl, sym, ap, subst, ◌∙◌, arith, append_assoc, append-nil, length, take, drop, slice_get, IsTrue, IsSome, zero}
-use Rattle.std.specs.Prelude.{◌==◌, Contains}
+-- Each mark of an Orders of a history has one order, which no further entry changes; who dials a connection takes them all; and which
+-- of them are starts.
+use Rattle.std.proofs.Common.{◌≡◌, ◌≢◌, ◌≤◌, ℕ, suc, List, [], ◌∷◌, ◌++◌, Option, Some, None, Bool, true, false, cond, refl, sym, ap, subst, ◌∙◌, arith, append_assoc, append-nil, length, take, drop, slice_get, IsTrue, IsSome, zero, ◌↔◌, map, inl, inr}
+use Rattle.std.specs.Prelude.{◌==◌, Contains, filter}
 use Rattle.std.specs.List.{flat_map}
-use Rattle.std.proofs.lemmas.Bool.{cond-true, eqb-true, eq-eqb}
+use Rattle.std.proofs.lemmas.Bool.{cond-true, eqb-true, eq-eqb, cond_both}
 use Rattle.std.proofs.lemmas.Grind.{flat_map-append}
 use Rattle.std.proofs.lemmas.List.{take_all, take-take, take-append-drop}
 use Rattle.std.proofs.lemmas.Option.{slice_get_within}
-use Rattle.std.proofs.lemmas.List.Elements.{Contains-append_left, Contains-append_right, Contains-push}
+use Rattle.std.proofs.lemmas.List.Elements.{Contains-append_left, Contains-append_right, Contains-push, All-contains, All-filter, All-contains_itself, filter_passes, Contains-append_cases, Contains-push_cases}
 use Rattle.net_base.specs.Dressing.{dressed_for}
 use Rattle.net_base.specs.declared.numbers.CallerNo.{CallerNo}
 use Rattle.net_base.specs.declared.numbers.ConnNo.{ConnNo}
@@ -18,10 +19,10 @@ use Rattle.model_laws.proofs.DialedLemmas.{conn_is, dial_about, targets_have, on
 use Rattle.model_laws.proofs.PendingLemmas.{pending_there}
 use Rattle.model_laws.proofs.WorkerLemmas.{may_order}
 use Rattle.model_laws.specs.Courses.{state_at, Comes, OfConnection}
-use Rattle.model_laws.specs.TextLaws.{AreOne, IsToldAt, MarksHaveOneOrder, given_to, OrdersAreTheDialers}
+use Rattle.model_laws.specs.TextLaws.{AreOne, IsToldAt, MarksHaveOneOrder, given_to, OrdersAreTheDialers, IsStart, StartsAreOrders, OwnEntriesAreCalls}
 use Rattle.model_histories.specs.Histories.{IsHistory}
 use Rattle.model_histories.specs.Legal.{IsWorkersEntry, MayTake}
-use Rattle.model_histories.specs.Reading.{is_about, accepted_by, submissions_of, dialed_by, targets_of, marks_by, start_of, order_of, given_by, Own, own_from}
+use Rattle.model_histories.specs.Reading.{is_about, accepted_by, submissions_of, dialed_by, targets_of, marks_by, start_of, order_of, given_by, Own, own_from, calls_of, orders_of, is_start_order}
 use Rattle.model_authority.proofs.NumberLemmas.{value_and, and_value}
 use Rattle.model_authority.specs.Lists.{numbered}
 use Rattle.model_values.specs.declared.config.Config.{Config}
@@ -210,3 +211,54 @@ orders_are_the_dialers config h n x c goes_to comes is =
     own_parts h c x.who [] h
     (λ i e is_entry. own_part config h i e c x.who (record { history = comes.history; is_entry = is_entry })
     (λ about. one_speaker config h n i x e c comes.history comes.is_entry is_entry (dial_about c x.act goes_to is) about))
+
+-- ---- starts
+
+kept_in : {A : Type 0} (test : A → Bool) (xs : List A) (x : A) → Contains (filter test xs) x → Contains xs x × (test x ≡ true)
+kept_in test xs x h = (
+  All-contains (λ y. Contains xs y) (filter test xs) x (All-filter test (λ y. Contains xs y) xs (All-contains_itself xs)) h,
+  All-contains (λ y. test y ≡ true) (filter test xs) x (filter_passes test xs) h,
+)
+
+in_kept : {A : Type 0} (test : A → Bool) (xs : List A) (x : A) → Contains xs x → test x ≡ true → Contains (filter test xs) x
+in_kept test [] x h t = h
+in_kept {A} test (y ∷ xs) x h t =
+    let rest : Contains xs x → Contains (filter test xs) x = λ later. in_kept test xs x later t in
+    cond_both (test y) (y ∷ filter test xs) (filter test xs) (λ (ys : List A). Contains ys x)
+    (λ k. elim (Contains-append_cases (y ∷ []) xs x h) [
+      | inl first ↦ Contains-append_left (y ∷ []) (filter test xs) x first
+      | inr later ↦ Contains-append_right (y ∷ []) (filter test xs) x (rest later)
+    ])
+    (λ f. elim (Contains-append_cases (y ∷ []) xs x h) [
+      | inl first ↦ elim (Contains-push_cases [] y x first) [
+        | inl none ↦ absurd (omega (arith, none.1))
+        | inr same ↦ let never : false ≡ true = sym f ∙ ap test same ∙ t in absurd cc
+      ]
+      | inr later ↦ rest later
+    ])
+
+start_is_tested : (told : Order) → (is_start_order told ≡ true) ↔ IsStart told
+start_is_tested (order.Start e r request probe) = ((λ t. tt), (λ s. refl))
+start_is_tested (order.Reset r) = ((λ t. absurd cc), (λ s. absurd s))
+start_is_tested order.Close = ((λ t. absurd cc), (λ s. absurd s))
+
+pub starts_are_orders : StartsAreOrders
+starts_are_orders h c told = (
+  (λ h_start. let both = kept_in is_start_order (orders_of h c) told h_start in (both.0, (start_is_tested told).0 both.1)),
+  (λ both. in_kept is_start_order (orders_of h c) told both.0 ((start_is_tested told).1 both.1)),
+)
+
+-- ---- own entries
+
+one_entry : (b : Bool) (own : Own) (owns : List Own) (es : List Entry) → map (λ (o : Own). o.entry) owns ≡ es → map (λ (o : Own). o.entry) (cond b (own ∷ owns) owns) ≡ cond b (own.entry ∷ es) es
+one_entry true own owns es same = ap (λ (l : List Entry). own.entry ∷ l) same
+one_entry false own owns es same = same
+
+own_calls : (before : List Entry) (who : CallerNo) (es : List Entry) → map (λ (o : Own). o.entry) (own_from before who es) ≡ calls_of es who
+unfolding own_from
+own_calls before who [] = refl
+own_calls before who (e ∷ es) =
+    one_entry (e.who.0 == who.0) (record { entry = e; orders = given_by before e.act }) (own_from (before ++ e ∷ []) who es) (calls_of es who) (own_calls (before ++ e ∷ []) who es)
+
+pub own_entries_are_calls : OwnEntriesAreCalls
+own_entries_are_calls h who = own_calls [] who h

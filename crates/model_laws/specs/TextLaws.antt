@@ -1,13 +1,14 @@
--- What is read off a history, and what the state says of the same: submissions, and the orders of a connection.
-use Rattle.std.specs.Prelude.{◌≡◌, ◌<◌, ◌≤◌, ◌+◌, ⊤, ℕ, List, [], ◌∷◌, Option, Some, None, Contains, if◌then◌else◌, length, take}
+-- What is read off a history, and what the state says of the same: submissions, orders and starts of a connection, own entries.
+use Rattle.std.specs.Prelude.{◌≡◌, ◌<◌, ◌≤◌, ◌+◌, ⊤, ℕ, List, [], ◌∷◌, Option, Some, None, Contains, if◌then◌else◌, length, take, ◌↔◌, map}
 use Rattle.std.specs.List.{flat_map}
 use Rattle.net_base.specs.Dressing.{dressed_for}
+use Rattle.net_base.specs.declared.numbers.CallerNo.{CallerNo}
 use Rattle.net_base.specs.declared.numbers.ConnNo.{ConnNo}
 use Rattle.net_base.specs.declared.numbers.ExchangeNo.{ExchangeNo}
 use Rattle.net_base.specs.declared.target.Target.{Target}
 use Rattle.model_laws.specs.Courses.{state_at, Comes, OfExchange, OfBoth}
 use Rattle.model_histories.specs.Histories.{run}
-use Rattle.model_histories.specs.Reading.{submissions_of, order_of, orders_of, is_about, Own, own_of}
+use Rattle.model_histories.specs.Reading.{submissions_of, order_of, orders_of, starts_of, is_about, calls_of, Own, own_of}
 use Rattle.model_values.specs.declared.config.Config.{Config}
 use Rattle.model_values.specs.declared.entry.Act.TheVariants.{Submit, Dial, Orders}
 use Rattle.model_values.specs.declared.entry.Entry.{Entry}
@@ -82,3 +83,18 @@ abbrev pub OrdersAreTheDialers : Type 0
 OrdersAreTheDialers =
     (config : Config) (h : List Entry) (n : ℕ) (x : Entry) (c : ConnNo) (goes_to : Target) →
     Comes config h n x → x.act ≡ Dial c goes_to → orders_of h c ≡ flat_map (given_to c) (own_of h x.who)
+
+-- ---- starts, and own entries
+
+abbrev pub IsStart : Order → Type 0
+IsStart (order.Start e r request probe) = ⊤
+IsStart (order.Reset r) = ⊥
+IsStart order.Close = ⊥
+
+-- the starts of a connection are those of its orders that start a stream
+abbrev pub StartsAreOrders : Type 0
+StartsAreOrders = (h : List Entry) (c : ConnNo) (told : Order) → Contains (starts_of h c) told ↔ (Contains (orders_of h c) told × IsStart told)
+
+-- of any entries, those of a caller with the orders that they give are its calls, in order
+abbrev pub OwnEntriesAreCalls : Type 0
+OwnEntriesAreCalls = (h : List Entry) (who : CallerNo) → map (λ own. own.entry) (own_of h who) ≡ calls_of h who

@@ -1,5 +1,5 @@
 // What is read off a history, and what the state says of the same.
-ghost use Rattle.model_laws.specs.TextLaws.{ExchangesAreSubmissions, AcceptedOnesAreExchanges, MarksHaveOneOrder, OrdersAreTheDialers};
+ghost use Rattle.model_laws.specs.TextLaws.{ExchangesAreSubmissions, AcceptedOnesAreExchanges, MarksHaveOneOrder, OrdersAreTheDialers, StartsAreOrders, OwnEntriesAreCalls};
 
 /// Behind any entries the exchange of a number is the accepted submission of that number, but for its urgency, or there is
 /// neither.
@@ -23,4 +23,14 @@ pub fn marks_have_one_order()
 /// In a history the orders of a connection are those that the entries of the one who dials it give, in order.
 pub fn orders_are_the_dialers()
     ensures { OrdersAreTheDialers }
+{}
+
+/// The starts of a connection are those of its orders that start a stream.
+pub fn starts_are_orders()
+    ensures { StartsAreOrders }
+{}
+
+/// The entries of a caller, with the orders that they give, are its calls, in order.
+pub fn own_entries_are_calls()
+    ensures { OwnEntriesAreCalls }
 {}
