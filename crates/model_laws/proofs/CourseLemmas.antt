@@ -3,8 +3,9 @@ use Rattle.std.proofs.Common.{◌≡◌, ◌≤◌, ◌+◌, ◌-◌, ℕ, zero,
 use Rattle.std.proofs.lemmas.List.{take_all, take_more}
 use Rattle.std.proofs.lemmas.Option.{slice_get_cases, slice_get_within, get_or_from_slice_get}
 use Rattle.model_laws.specs.Courses.{state_at}
+use Rattle.model_histories.proofs.HistoryLemmas.{AreStanding}
 use Rattle.model_histories.proofs.RunLemmas.{run_none, run_at}
-use Rattle.model_histories.specs.Histories.{opening, run, MayStand, IsHistory}
+use Rattle.model_histories.specs.Histories.{opening, run_from, run, MayStand, IsHistory}
 use Rattle.model_steps.specs.After.{after}
 use Rattle.model_values.specs.declared.config.Config.{Config}
 use Rattle.model_values.specs.declared.entry.Entry.{Entry}
@@ -63,3 +64,9 @@ each_beginning config h P history none more (suc n) =
       | inl is ↦ subst (λ k. P (take k h)) next (subst P (sym (take_entry h n is.0 is.2)) (more (take n h) is.0 (history.each n is.0 is.2) before))
       | inr past ↦ subst P (take_all n h past.0 ∙ sym (take_all (suc n) h (omega arith))) before
     ]
+
+-- what holds at a state holds behind entries that may stand
+pub kept_from : (P : AbstractPool → Type 0) → IsKept P → (s : AbstractPool) (h : List Entry) → AreStanding s h → P s → P (run_from s h)
+unfolding run_from
+kept_from P kept s [] stand here = here
+kept_from P kept s (x ∷ h) stand here = kept_from P kept (after s x) h stand.1 (kept s x stand.0 here)

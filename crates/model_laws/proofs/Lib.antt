@@ -1,4 +1,5 @@
 pub mod AgainLemmas
+pub mod AnswerLemmas
 pub mod AskedLemmas
 pub mod AssignedLemmas
 pub mod BeginLemmas
@@ -12,6 +13,7 @@ pub mod ExchangesAfter
 pub mod FewLemmas
 pub mod FitLemmas
 pub mod GoneLemmas
+pub mod LongerLemmas
 pub mod MoveLemmas
 pub mod OrderLemmas
 pub mod OrderlyLemmas

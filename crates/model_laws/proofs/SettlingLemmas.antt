@@ -3,8 +3,8 @@ use Rattle.std.proofs.Common.{◌≡◌, ◌<◌, ◌⊎◌, ℕ, zero, suc, Lis
 use Rattle.std.specs.List.{list_any}
 use Rattle.std.proofs.lemmas.Bool.{and_from, or_left, or_right}
 use Rattle.net_base.specs.declared.numbers.Moment.{Moment}
-use Rattle.model_laws.proofs.SettlingFalls.{unended_of, waiting_of, room_of, open_of, Falls, falls_due}
-use Rattle.model_laws.specs.SettlingLaws.{SettlingIsDetermined, Settles, SettlingEnds, NoneWaits}
+use Rattle.model_laws.proofs.SettlingFalls.{falls_due}
+use Rattle.model_laws.specs.SettlingLaws.{left_to_do, SettlingIsDetermined, Settles, SettlingEnds, NoneWaits}
 use Rattle.model_histories.specs.Histories.{run_from}
 use Rattle.model_histories.specs.Legal.{IsPoolsEntry}
 use Rattle.model_settling.proofs.AssignLemmas.{assign_some}
@@ -113,8 +113,8 @@ ends_here : (s : AbstractPool) → IsSettled s → Ends s
 unfolding run_from
 ends_here s settled = ([], record { own = tt; settled = settled })
 
--- settling ends here where it ends at each state that falls below this one
-step : (s : AbstractPool) → ((t : AbstractPool) → Falls s t → Ends t) → Ends s
+-- settling ends here where it ends at each state with less to do
+step : (s : AbstractPool) → ((t : AbstractPool) → left_to_do t < left_to_do s → Ends t) → Ends s
 step s below = elim (option_cases (due_of s)) [
   | inl none ↦ ends_here s (settled_none s none)
   | inr some ↦
@@ -123,42 +123,9 @@ step s below = elim (option_cases (due_of s)) [
       ends_after s e (record { caller = refl; moment = refl; due = late.1 }) (below (after s e) (falls_due s late.0 late.1))
 ]
 
--- by the connections that are open, where settling ends at each state with less of the rest
-ends_by_open : (u w r : ℕ) → ((t : AbstractPool) → (unended_of t < u) ⊎ (((unended_of t ≡ u) × (waiting_of t < w)) ⊎ ((unended_of t ≡ u) × (waiting_of t ≡ w) × (room_of t < r))) → Ends t) →
-    (o : ℕ) (s : AbstractPool) → unended_of s ≡ u → waiting_of s ≡ w → room_of s ≡ r → open_of s < o → Ends s
-ends_by_open u w r below zero s hu hw hr ho = absurd (omega (arith, ho))
-ends_by_open u w r below (suc o) s hu hw hr ho = step s (λ t falls. elim falls [
-  | inl a ↦ below t (inl (omega (arith, a, hu)))
-  | inr (inl b) ↦ below t (inr (inl (b.0 ∙ hu, omega (arith, b.1, hw))))
-  | inr (inr (inl c)) ↦ below t (inr (inr (c.0 ∙ hu, c.1 ∙ hw, omega (arith, c.2, hr))))
-  | inr (inr (inr d)) ↦ ends_by_open u w r below o t (d.0 ∙ hu) (d.1 ∙ hw) (d.2 ∙ hr) (omega (arith, d.3, ho))
-])
-
--- by the room that is left
-ends_by_room : (u w : ℕ) → ((t : AbstractPool) → (unended_of t < u) ⊎ ((unended_of t ≡ u) × (waiting_of t < w)) → Ends t) →
-    (r : ℕ) (s : AbstractPool) → unended_of s ≡ u → waiting_of s ≡ w → room_of s < r → Ends s
-ends_by_room u w below zero s hu hw hr = absurd (omega (arith, hr))
-ends_by_room u w below (suc r) s hu hw hr =
-    ends_by_open u w (room_of s) (λ t less. elim less [
-      | inl a ↦ below t (inl a)
-      | inr (inl b) ↦ below t (inr b)
-      | inr (inr c) ↦ ends_by_room u w below r t c.0 c.1 (omega (arith, c.2, hr))
-    ]) (suc (open_of s)) s hu hw refl (omega arith)
-
--- by the exchanges that wait
-ends_by_waiting : (u : ℕ) → ((t : AbstractPool) → unended_of t < u → Ends t) → (w : ℕ) (s : AbstractPool) → unended_of s ≡ u → waiting_of s < w → Ends s
-ends_by_waiting u below zero s hu hw = absurd (omega (arith, hw))
-ends_by_waiting u below (suc w) s hu hw =
-    ends_by_room u (waiting_of s) (λ t less. elim less [
-      | inl a ↦ below t a
-      | inr b ↦ ends_by_waiting u below w t b.0 (omega (arith, b.1, hw))
-    ]) (suc (room_of s)) s hu refl (omega arith)
-
--- by the exchanges that have no end
-ends_by_unended : (u : ℕ) (s : AbstractPool) → unended_of s < u → Ends s
-ends_by_unended zero s h = absurd (omega (arith, h))
-ends_by_unended (suc u) s h =
-    ends_by_waiting (unended_of s) (λ t less. ends_by_unended u t (omega (arith, less, h))) (suc (waiting_of s)) s refl (omega arith)
+ends_below : (n : ℕ) (s : AbstractPool) → left_to_do s < n → Ends s
+ends_below zero s h = absurd (omega (arith, h))
+ends_below (suc n) s h = step s (λ t less. ends_below n t (omega (arith, less, h)))
 
 pub settling_ends : SettlingEnds
-settling_ends s = ends_by_unended (suc (unended_of s)) s (omega arith)
+settling_ends s = ends_below (suc (left_to_do s)) s (omega arith)

@@ -6,7 +6,7 @@ use Rattle.model_changes.specs.Connections.{streams_started}
 use Rattle.model_laws.proofs.AgainLemmas.{EachMoves, moves_after, moves_opening}
 use Rattle.model_laws.proofs.CarriedLemmas.{carried_after, apart_after, carried_opening, apart_opening}
 use Rattle.model_laws.proofs.CountLemmas.{IsWithin, within_after, within_opening}
-use Rattle.model_laws.proofs.CourseLemmas.{state_each}
+use Rattle.model_laws.proofs.CourseLemmas.{kept_from, state_each}
 use Rattle.model_laws.proofs.FewLemmas.{few_after, few_opening}
 use Rattle.model_laws.proofs.FitLemmas.{same_item}
 use Rattle.model_laws.proofs.OrderlyLemmas.{AreOrderly, orderly_after, orderly_opening}
@@ -20,9 +20,10 @@ use Rattle.model_laws.specs.Courses.{state_at}
 use Rattle.model_laws.specs.EndLaws.{ClosingOnesStartNothing}
 use Rattle.model_laws.specs.LeaseLaws.{StreamsAreLeasedOnce}
 use Rattle.model_laws.specs.LimitLaws.{ConnectionsStayWithinLimits, StreamsStayWithinLimits}
-use Rattle.model_laws.specs.Sound.{LeasesAreCarried, LeasesAreApart, StartedAreSent, HasStreamsInOrder, IsShutDown, RowsAreApart, ReachedIsSound}
+use Rattle.model_laws.specs.Sound.{LeasesAreCarried, LeasesAreApart, StartedAreSent, HasStreamsInOrder, IsShutDown, RowsAreApart, IsSound, StandingIsSound, ReachedIsSound}
+use Rattle.model_histories.proofs.HistoryLemmas.{each_standing}
 use Rattle.model_histories.proofs.RunLemmas.{config-run}
-use Rattle.model_histories.specs.Histories.{opening, MayStand}
+use Rattle.model_histories.specs.Histories.{opening, run, MayStand}
 use Rattle.model_histories.specs.Legal.{IsWorkersEntry, MayTake}
 use Rattle.model_settling.specs.Counts.{count_total, count_in_group}
 use Rattle.model_steps.specs.After.{after}
@@ -76,11 +77,8 @@ keeps_opening config = record {
   rows = rows_opening config;
 }
 
-pub reached_is_sound : ReachedIsSound
-reached_is_sound config h n history =
-    let s : AbstractPool = state_at config h n in
-    let k : Keeps s = state_each config h n Keeps history keeps_after (keeps_opening config) in
-    let same : s.config ≡ config = config-run config (take n h) in
+sound_with : (config : Config) (s : AbstractPool) → s.config ≡ config → Keeps s → IsSound config s
+sound_with config s same k =
     record {
       limits = same;
       carried = k.carried;
@@ -98,6 +96,15 @@ reached_is_sound config h n history =
       few = k.few;
       rows = k.rows;
     }
+
+pub standing_is_sound : StandingIsSound
+unfolding run
+standing_is_sound config h each =
+    sound_with config (run config h) (config-run config h) (kept_from Keeps keeps_after (opening config) h (each_standing (opening config) h each) (keeps_opening config))
+
+pub reached_is_sound : ReachedIsSound
+reached_is_sound config h n history =
+    sound_with config (state_at config h n) (config-run config (take n h)) (state_each config h n Keeps history keeps_after (keeps_opening config))
 
 -- ---- laws that are parts of it
 

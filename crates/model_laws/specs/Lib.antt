@@ -5,8 +5,10 @@ pub mod DialLaws
 pub mod EndLaws
 pub mod LeaseLaws
 pub mod LimitLaws
+pub mod LongerLaws
 pub mod MoveLaws
 pub mod PlaceLaws
+pub mod PortLaws
 pub mod SettlingLaws
 pub mod Sound
 pub mod TextLaws

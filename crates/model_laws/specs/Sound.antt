@@ -1,13 +1,13 @@
 -- What holds of every state that a history goes through. `reached_is_sound` proves it; what is built over the abstract pool may
 -- rest on it.
-use Rattle.std.specs.Prelude.{◌≡◌, ◌<◌, ◌≤◌, ℕ, List, [], Some, IsTrue, IsSome, IsSomeAnd, All, AllPairs, Contains, length}
+use Rattle.std.specs.Prelude.{◌≡◌, ◌<◌, ◌≤◌, ℕ, List, [], Some, take, slice_get, IsTrue, IsSome, IsSomeAnd, All, AllPairs, Contains, length}
 use Rattle.net_base.specs.declared.numbers.ConnNo.{ConnNo}
 use Rattle.net_base.specs.declared.numbers.StreamNo.{StreamNo}
 use Rattle.partition_keys.specs.Equality.{same_group}
 use Rattle.model_laws.specs.LimitLaws.{IsWithinLimits, HasStreamsWithin}
 use Rattle.model_changes.specs.Connections.{streams_started}
 use Rattle.model_laws.specs.Courses.{state_at}
-use Rattle.model_histories.specs.Histories.{IsHistory}
+use Rattle.model_histories.specs.Histories.{run, MayStand, IsHistory}
 use Rattle.model_values.specs.declared.config.Config.{Config}
 use Rattle.model_values.specs.declared.entry.Entry.{Entry}
 use Rattle.model_values.specs.declared.state.AbstractPool.{AbstractPool}
@@ -80,6 +80,14 @@ pub record IsSound (config : Config) (s : AbstractPool) : Type 0 where
   pub connections : length s.connections ≤ most_connections
   pub few : length s.alternatives ≤ most_origins
   pub rows : RowsAreApart s
+
+-- each entry may stand where it stands, whatever is due at the end: so it is in the middle of a call, while the pool settles
+abbrev pub EachMayStand : Config → List Entry → Type 0
+EachMayStand config h = (i : ℕ) (x : Entry) → slice_get h i ≡ Some x → MayStand (run config (take i h)) x
+
+-- each state that such entries lead to is sound
+abbrev pub StandingIsSound : Type 0
+StandingIsSound = (config : Config) (h : List Entry) → EachMayStand config h → IsSound config (run config h)
 
 -- each state that a history goes through is sound
 abbrev pub ReachedIsSound : Type 0

@@ -1,5 +1,5 @@
 // What holds of every state that a history goes through.
-ghost use Rattle.model_laws.specs.Sound.{ReachedIsSound};
+ghost use Rattle.model_laws.specs.Sound.{StandingIsSound, ReachedIsSound};
 
 /// Each state that a history goes through is sound: its leases are on streams of connections that were opened and aren't gone,
 /// no stream is leased twice, and none that was started has an unsent lease; streams have numbers below the next one, none
@@ -8,4 +8,11 @@ ghost use Rattle.model_laws.specs.Sound.{ReachedIsSound};
 /// a group; and after a shutdown each exchange has ended and no connection is wanted, open or draining.
 pub fn reached_is_sound()
     ensures { ReachedIsSound }
+{}
+
+/// So is each state that entries lead to which each may stand where they stand: in the middle of a call too, while the pool
+/// settles.
+#[tactic(auto, using(crate::proofs::SoundLemmas::standing_is_sound))]
+pub fn standing_is_sound()
+    ensures { StandingIsSound }
 {}
