@@ -8,9 +8,7 @@
 mod allowed;
 mod answers;
 mod longer;
-mod orders;
 mod port;
-mod replies;
 
 pub use port::JudgedPort;
 

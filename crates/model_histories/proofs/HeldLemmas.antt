@@ -1,7 +1,7 @@
 -- What one entry leaves of what callers hold of one connection.
 use Rattle.std.proofs.Common.{[], ◌≡◌, ℕ, List, Option, Some, None, Bool, true, false, cond, refl, sym, ap, subst, ◌∙◌, IsSomeAnd}
 use Rattle.std.specs.Prelude.{◌==◌, ◌&&◌, ◌||◌}
-use Rattle.std.proofs.lemmas.Bool.{eq-eqb, ne_eqb, cond-true, cond-false, cond_both, and_right, both_ways}
+use Rattle.std.proofs.lemmas.Bool.{eq-eqb, ne_eqb, cond-true, cond-false, cond_both, and_right, both_ways, false_from_ne_true}
 use Rattle.net_base.specs.declared.end_cause.EndCause.{EndCause}
 use Rattle.net_base.specs.declared.numbers.CallerNo.{CallerNo}
 use Rattle.net_base.specs.declared.numbers.ConnNo.{ConnNo}
@@ -29,12 +29,18 @@ abbrev pub IsFresh : Option Connection → Type 0
 IsFresh None = Unit {0}
 IsFresh (Some c) = is_wanted c.phase ≡ true → (c.sent ≡ 0) × (c.started ≡ [])
 
+-- the connection is there, and somebody has dialed it
+abbrev pub IsDialed : Option Connection → Type 0
+IsDialed None = ⊥
+IsDialed (Some c) = is_wanted c.phase ≡ false
+
 -- what this caller's act makes of the connection of this number: what the caller holds of it is what the act leaves, what
 -- others hold stays, and so does what is known of it
 pub record Goes (who : CallerNo) (act : Act) (n : ℕ) (o p : Option Connection) : Type 0 where
   pub held : (w : CallerNo) (c : ConnNo) → c.0 ≡ n → held_of w p ≡ cond (who.0 == w.0) (held_after c (held_of w o) act) (held_of w o)
   pub fresh : IsFresh o → IsFresh p
   pub up : IsUp o → IsUp p
+  pub dialed : IsDialed o → IsDialed p
 
 -- the act is no worker's of the connection of this number
 abbrev pub IsApart : Act → ℕ → Type 0
@@ -80,6 +86,11 @@ up_kept None (Some y) k u = absurd u
 up_kept (Some x) None k u = absurd k
 up_kept (Some x) (Some y) k u = keeps_up x y k u
 
+dialed_kept : (o p : Option Connection) → KeptAt o p → IsDialed o → IsDialed p
+dialed_kept None p k d = absurd d
+dialed_kept (Some x) None k d = absurd k
+dialed_kept (Some x) (Some y) k d = false_from_ne_true (is_wanted y.phase) (λ w. both_ways (is_wanted x.phase) d (k.wanted w))
+
 pub kept_goes : (who : CallerNo) (act : Act) (n : ℕ) (o p : Option Connection) → IsApart act n → KeptAt o p → Goes who act n o p
 kept_goes who act n o p apart k = record {
   held = λ w c is_number.
@@ -88,6 +99,7 @@ kept_goes who act n o p apart k = record {
       (λ t. sym (apart c (held_of w o) is_number)) (λ f. refl);
   fresh = fresh_kept o p k;
   up = up_kept o p k;
+  dialed = dialed_kept o p k;
 }
 
 -- ---- the connection that the act is about
@@ -152,6 +164,7 @@ dial_goes who conn target x wanted fresh = record {
       (here_by conn c (held_as 0 false []) (held_of w (Some x)) e);
   fresh = λ f w. absurd cc;
   up = λ u. absurd (both_ways (is_opening x.phase) u (follows is_wanted is_opening refl x.phase wanted));
+  dialed = λ d. refl;
 }
 
 -- ---- orders, reports and the end
@@ -166,6 +179,7 @@ orders_goes who conn sent orders x caller busy =
           (here_by conn c (Some (holding y)) (Some (holding x)) e);
       fresh = λ f. busy_fresh y busy;
       up = λ u. u;
+      dialed = λ d. d;
     }
 
 pub report_phase : (d b opens : Bool) → cond opens d b ≡ true → ((d || b) ≡ true) × ((b || opens) ≡ true)
@@ -190,6 +204,7 @@ report_goes who conn sent r x y caller reported worked =
           ∙ held_left sent y.sent (is_busy x.phase || is_opening_report r) (is_busy y.phase) x.started y.started (sym worked.sent) (phase.1 ∙ sym worked.busy) (sym worked.started));
       fresh = λ f. busy_fresh y worked.busy;
       up = λ u. excludes is_busy is_opening refl y.phase worked.busy;
+      dialed = λ d. excludes is_busy is_wanted refl y.phase worked.busy;
     }
 
 none_both : (b : Bool) → none_held ≡ cond b None None
@@ -205,6 +220,7 @@ closed_goes who conn sent end heard x y caller live given_up = record {
       (held_none w y (ap (λ (p : Phase). is_dialing p || is_busy p) given_up) ∙ none_both (who.0 == w.0));
   fresh = λ f w. let e : is_wanted y.phase ≡ false = ap (λ (p : Phase). is_wanted p) given_up in absurd cc;
   up = λ u. ap (λ (p : Phase). is_opening p) given_up;
+  dialed = λ d. ap (λ (p : Phase). is_wanted p) given_up;
 }
 
 -- ---- the other connections

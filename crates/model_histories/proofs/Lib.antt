@@ -1,3 +1,4 @@
+pub mod AboutLemmas
 pub mod AllowedLemmas
 pub mod CauseLemmas
 pub mod DialLemmas
@@ -8,8 +9,11 @@ pub mod HeldLemmas
 pub mod HistoryLemmas
 pub mod KeepLemmas
 pub mod LeaseLemmas
+mod OrderLemmas
 pub mod OwnLemmas
 pub mod ReplyLemmas
 pub mod RunLemmas
+pub mod SaidLemmas
 pub mod StandLemmas
+pub mod WantedLemmas
 pub mod WorkingLemmas

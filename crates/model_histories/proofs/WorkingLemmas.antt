@@ -48,7 +48,7 @@ pub record IsSound (s : AbstractPool) : Type 0 where
   pub up : AreLeasesUp s.connections s.exchanges
 
 -- what is asked here of the connection that an act is about
-abbrev IsFit : AbstractPool → CallerNo → Act → Type 0
+abbrev pub IsFit : AbstractPool → CallerNo → Act → Type 0
 IsFit s who (Dial c target) = IsSomeAnd (numbered c.0 s.connections) (λ x. IsTrue (is_wanted x.phase))
 IsFit s who (Orders c sent orders) = MayTakeAt s who c sent orders
 IsFit s who (Reported c sent report) = MayReportAt s who c sent report
@@ -97,7 +97,7 @@ kept_act s who _ plain sound fit = kept_same s.connections
 
 -- ---- any act
 
-go_act : (s : AbstractPool) (who : CallerNo) (act : Act) → IsSound s → IsFit s who act → (n : ℕ) → Goes who act n (numbered n s.connections) (numbered n (after_act s who act).connections)
+pub go_act : (s : AbstractPool) (who : CallerNo) (act : Act) → IsSound s → IsFit s who act → (n : ℕ) → Goes who act n (numbered n s.connections) (numbered n (after_act s who act).connections)
 go_act s who (Dial c target) sound fit =
     one_goes who (Dial c target) c.0 (λ x y. y ≡ dialing_by who x) (λ x. IsTrue (is_wanted x.phase)) s.connections (after_dial s who c).connections (effect_act s who (Dial c target)) fit
     (dial_apart c target)
@@ -137,7 +137,7 @@ sound_act s who act sound fit =
 
 -- ---- any entry that may stand
 
-sound_noted : (s : AbstractPool) (m : Moment) → IsSound s → IsSound (noted s m)
+pub sound_noted : (s : AbstractPool) (m : Moment) → IsSound s → IsSound (noted s m)
 unfolding noted
 sound_noted s m sound = record { fresh = sound.fresh; up = sound.up }
 
@@ -170,13 +170,13 @@ fit_reply s who (Want e c t) h = absurd h
 fit_reply s who (Evict c) h = absurd h
 fit_reply s who _ h = tt
 
-fit_legal : (s : AbstractPool) (e : Entry) → IsLegal s e → IsFit (noted s e.moment) e.who e.act
+pub fit_legal : (s : AbstractPool) (e : Entry) → IsLegal s e → IsFit (noted s e.moment) e.who e.act
 fit_legal s e legal = elim legal [
   | inl pools ↦ fit_due s e.moment e.who e.act pools.due
   | inr calls ↦ fit_reply (noted s e.moment) e.who e.act calls.reply
 ]
 
-sound_after : (s : AbstractPool) (e : Entry) → IsSound s → IsLegal s e → IsSound (after s e)
+pub sound_after : (s : AbstractPool) (e : Entry) → IsSound s → IsLegal s e → IsSound (after s e)
 unfolding after
 sound_after s e sound legal = sound_act (noted s e.moment) e.who e.act (sound_noted s e.moment sound) (fit_legal s e legal)
 
@@ -202,7 +202,7 @@ held_run s (e ∷ h) who c sound all =
     ∙ ap (λ o. held_from c o (calls_of h who)) (sym (held_step s e who c sound legal))
     ∙ held_run (after s e) h who c (sound_after s e sound legal) all.1
 
-sound_opening : (config : Config) → IsSound (opening config)
+pub sound_opening : (config : Config) → IsSound (opening config)
 sound_opening config = record {
   fresh = λ n. subst IsFresh (sym (none_numbered Connection n)) tt;
   up = λ n. subst (IsLeaseUp []) (sym (none_numbered Exchange n)) tt;

@@ -11,7 +11,7 @@ use Rattle.net_base.specs.declared.numbers.StreamNo.{StreamNo}
 use Rattle.model_changes.specs.Connections.{streams_started}
 use Rattle.model_histories.specs.Histories.{IsHistory, run}
 use Rattle.model_histories.specs.Looks.{IsLook, IsLateAt, IsStop, IsNothingWanted, IsNothingOrdered}
-use Rattle.model_histories.specs.Reading.{calls_of, is_about, order_of}
+use Rattle.model_histories.specs.Reading.{Own, own_of, calls_of, is_about, order_of}
 use Rattle.model_values.specs.declared.config.Config.{Config}
 use Rattle.model_values.specs.declared.entry.Act.{Act}
 use Rattle.model_values.specs.declared.entry.Act.TheVariants.{Tick, Dial, Orders, Reported, Closed}
@@ -76,7 +76,11 @@ pub record IsLookAt (v : PortView) (moment : Moment) (no : ExchangeNo) (reply : 
   pub answers : IsLook (run v.config w.seen) v.mine no reply
   pub leaves : (LeavesNone v w × (¬ IsLateAt (run v.config w.seen) moment)) ⊎ Leaves v moment Tick w
 
--- ---- what a worker holds, read off its own calls
+-- ---- what a worker says and holds, read off its own calls
+
+-- what the port's caller has said
+abbrev pub said : PortView → List Own
+said v = own_of v.seen v.mine
 
 -- a connection that a worker dialed: the octets sent at its last entry, whether it was opened, and the streams whose
 -- starts were handed

@@ -42,6 +42,11 @@ is_about c _ = false
 
 -- ---- orders
 
+-- the item alone, where there is one
+abbrev pub one_of : {A : Type 0} → Option A → List A
+one_of None = []
+one_of (Some x) = x ∷ []
+
 abbrev pub accepted_by : Act → List Submission
 accepted_by (Submit ask (submit.Accepted e)) = ask ∷ []
 accepted_by _ = []
@@ -92,6 +97,15 @@ is_start_order order.Close = false
 abbrev pub starts_of : List Entry → ConnNo → List Order
 starts_of h c = filter is_start_order (orders_of h c)
 
+abbrev pub stream_started : Order → List StreamNo
+stream_started (order.Start e r request probe) = r ∷ []
+stream_started (order.Reset r) = []
+stream_started order.Close = []
+
+-- the streams of the starts among orders
+abbrev pub streams_of : List Order → List StreamNo
+streams_of orders = flat_map stream_started orders
+
 -- ---- what one caller says
 
 abbrev pub given_by : List Entry → Act → List Order
@@ -113,6 +127,14 @@ own_from before who (x ∷ xs) =
 -- what one caller says in a history
 abbrev pub own_of : List Entry → CallerNo → List Own
 own_of h who = own_from [] who h
+
+-- more entries only add behind what a caller says, and what they add is read with all before them in hand
+abbrev pub OwnReadingsGrow : Type 0
+OwnReadingsGrow = (h more : List Entry) (who : CallerNo) → own_of (h ++ more) who ≡ own_of h who ++ own_from h who more
+
+-- what a caller says of one connection
+unfoldable pub about : ConnNo → List Own → List Own
+about c own = filter (λ o. is_about c o.entry.act) own
 
 -- ---- leases. Places are counted from 1
 

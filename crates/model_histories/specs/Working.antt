@@ -1,14 +1,14 @@
 -- What a worker holds by its own entries, and what the pool's state says of its connection.
-use Rattle.std.specs.Prelude.{◌≡◌, ◌↔◌, ◌==◌, ◌&&◌, ◌||◌, ℕ, Bool, List, Option, Some, None, if◌then◌else◌, IsTrue, IsSomeAnd}
+use Rattle.std.specs.Prelude.{◌≡◌, ◌↔◌, ◌==◌, ◌&&◌, ◌||◌, ℕ, Bool, List, Option, Some, None, if◌then◌else◌, IsTrue, IsSomeAnd, All}
 use Rattle.net_base.specs.declared.end_cause.EndCause.{EndCause}
 use Rattle.net_base.specs.declared.numbers.CallerNo.{CallerNo}
 use Rattle.net_base.specs.declared.numbers.ConnNo.{ConnNo}
 use Rattle.model_histories.specs.Histories.{IsHistory, run}
 use Rattle.model_histories.specs.Legal.{IsWorkersEntry, MayReportAt, MayCloseAt}
 use Rattle.model_histories.specs.Port.{PortView, Held, held_from, MayWorkBy, MayReportBy, MayCloseBy}
-use Rattle.model_histories.specs.Reading.{calls_of}
+use Rattle.model_histories.specs.Reading.{calls_of, is_about}
 use Rattle.model_authority.specs.Lists.{numbered}
-use Rattle.model_authority.specs.Statuses.{is_dialing, is_busy}
+use Rattle.model_authority.specs.Statuses.{is_wanted, is_dialing, is_busy}
 use Rattle.model_values.specs.declared.config.Config.{Config}
 use Rattle.model_values.specs.declared.entry.Entry.{Entry}
 use Rattle.model_values.specs.declared.report.Report.{Report}
@@ -52,3 +52,11 @@ EndsAsStateSays = (v : PortView) (c : ConnNo) (sent : ℕ) (end : EndCause) → 
 -- it may ask for the orders of the connections that are its own and were opened
 abbrev pub WorksAsStateSays : Type 0
 WorksAsStateSays = (v : PortView) (c : ConnNo) (sent : ℕ) → IsHistory v.config v.seen → MayWorkBy v c sent ↔ MayWorkAt (run v.config v.seen) v.mine c sent
+
+-- ---- connections that are to be dialed
+
+-- in each history, no entry of a worker is about a connection that is wanted. So who is to dial it has said nothing of it
+abbrev pub WantedAreUntouched : Type 0
+WantedAreUntouched =
+    (config : Config) (h : List Entry) (c : ConnNo) (connection : Connection) → IsHistory config h → numbered c.0 (run config h).connections ≡ Some connection → IsTrue (is_wanted connection.phase) →
+    All (λ x. ¬ IsTrue (is_about c x.act)) h

@@ -1,5 +1,6 @@
 // Laws of histories, each a fact without a computation.
-ghost use Rattle.model_histories.specs.Working.{HoldsAsStateSays, ReportsAsStateSays, EndsAsStateSays, WorksAsStateSays};
+ghost use Rattle.model_histories.specs.Reading.{OwnReadingsGrow};
+ghost use Rattle.model_histories.specs.Working.{HoldsAsStateSays, ReportsAsStateSays, EndsAsStateSays, WorksAsStateSays, WantedAreUntouched};
 
 /// In each history, what a caller holds of a connection by its own entries alone is what the pool's state says: whether it
 /// works on the connection, how many octets were sent, whether it was opened, and which streams were started.
@@ -25,4 +26,16 @@ pub fn ends_as_state_says()
 #[tactic(auto, using(crate::proofs::AllowedLemmas::works_as_state_says))]
 pub fn works_as_state_says()
     ensures { WorksAsStateSays }
+{}
+
+/// In each history, no entry of a worker is about a connection that is wanted: who is to dial it has said nothing of it.
+#[tactic(auto, using(crate::proofs::WantedLemmas::wanted_are_untouched))]
+pub fn wanted_are_untouched()
+    ensures { WantedAreUntouched }
+{}
+
+/// When more entries come, what a caller has said before stays as it was read, and what it says in them stands behind it.
+#[tactic(auto, using(crate::proofs::SaidLemmas::own_readings_grow))]
+pub fn own_readings_grow()
+    ensures { OwnReadingsGrow }
 {}

@@ -1,17 +1,20 @@
-// Whether a call has the one reply that the state gives.
-ghost use Rattle.std.specs.Prelude.{◌≡◌, ◌↔◌, ◌≤◌, ◌<◌, IsTrue, IsSomeAnd, Contains, Some, length};
+// The one reply that a state gives to each call, and whether an entry has it.
+ghost use Rattle.std.specs.Prelude.{◌≡◌, ◌↔◌, ◌≤◌, ◌<◌, ◌+◌, ◌^◌, IsTrue, IsSomeAnd, Contains, Some, length};
 ghost use Rattle.std.specs.Option.{option_copied};
 ghost use Rattle.std.specs.Str.{bytes_eq};
 ghost use Rattle.model_histories.specs.Legal as legal;
+ghost use Rattle.model_authority.specs.Ways as ways;
+ghost use Rattle.model_values.specs.Limits.{most_judged};
 ghost use Rattle.model_histories.specs.Replies as spec;
 
 use model_authority::{GroupParts, has_ended, is_busy, is_dialing, numbered};
 use model_settling::{count_in_group, count_total, planned};
+use model_steps::group_parts_for;
 use model_values::{
     AbstractPool, CancelReply, ChangeReply, Connection, Exchange, MOST_ADDRESSES, OrderMarks,
     PreconnectReply, Report, ResolvedReply, ShutReply, Submission, SubmitReply,
 };
-use net_base::{Addresses, CallerNo, EndCause, ExchangeNo, PlainValue, Scheme, StreamNo};
+use net_base::{Addresses, CallerNo, EndCause, ExchangeNo, Origin, PlainValue, Scheme, StreamNo};
 use partition_keys::PartitionKey;
 
 /// The exchange of this number, where it is this caller's.
@@ -36,6 +39,98 @@ fn is_probe_path(ask: &Submission) -> bool
     ensures { result ≡ spec.is_probe_path ask.now.request.path }
 {
     ask.request.path.as_slice() == b"/.well-known/http-opportunistic".as_slice()
+}
+
+/// The reply to a submission. The number of one more exchange has to fit.
+pub fn submit_reply(s: &AbstractPool, ask: &Submission) -> SubmitReply
+    requires { length s.now.exchanges + 1 < 2 ^ 64 }
+    ensures { spec.IsSubmitReply s.now ask.now result }
+{
+    let accepted = s.exchanges.len() as u64;
+    match s.shutdown {
+        Some(place) => SubmitReply::Closed(place),
+        None => if is_bad_probe(ask) {
+            SubmitReply::BadProbe
+        } else if accepted == s.config.submissions {
+            SubmitReply::SubmissionsFull(accepted)
+        } else {
+            SubmitReply::Accepted(ExchangeNo(accepted + 1))
+        },
+    }
+}
+
+/// The reply to a cancel.
+pub fn cancel_reply(s: &AbstractPool, who: CallerNo, no: ExchangeNo) -> CancelReply
+    ensures { spec.IsCancelReply s.now who no result }
+{
+    match own_exchange(s, who, no) {
+        None => CancelReply::Unknown,
+        Some(e) => if has_ended(&e.status) {
+            CancelReply::Ended
+        } else {
+            CancelReply::Cancelled
+        },
+    }
+}
+
+/// The reply to a change of urgency.
+pub fn change_reply(s: &AbstractPool, who: CallerNo, no: ExchangeNo) -> ChangeReply
+    ensures { spec.IsChangeReply s.now who no result }
+{
+    match own_exchange(s, who, no) {
+        None => ChangeReply::Unknown,
+        Some(e) => if has_ended(&e.status) {
+            ChangeReply::Ended
+        } else {
+            ChangeReply::Changed
+        },
+    }
+}
+
+/// The reply to a call to open this many connections ahead. Connections have numbers of 32 bits, so their counts have too.
+pub fn preconnect_reply(
+    s: &AbstractPool,
+    key: &PartitionKey,
+    credentials: bool,
+    origin: &Origin,
+    count: u32,
+) -> PreconnectReply
+    requires { length s.now.connections ≤ most_judged }
+    ensures { spec.IsPreconnectReply s.now (ways.group_for s.now key.now credentials origin.now) count result }
+{
+    let group = group_parts_for(s, key, credentials, origin);
+    match s.shutdown {
+        Some(place) => PreconnectReply::Closed(place),
+        None => match planned(s, &group, count) {
+            0 => PreconnectReply::NoRoom(count_total(s) as u32, count_in_group(s, &group) as u32),
+            opening => PreconnectReply::Opening(opening),
+        },
+    }
+}
+
+/// The reply to addresses.
+pub fn resolved_reply(s: &AbstractPool, addresses: &Addresses) -> ResolvedReply
+    ensures { spec.IsResolvedReply s.now addresses.now result }
+{
+    let given = addresses.len() as u64;
+    match s.shutdown {
+        Some(place) => ResolvedReply::Closed(place),
+        None => if given > MOST_ADDRESSES {
+            ResolvedReply::TooMany(given)
+        } else {
+            ResolvedReply::Noted
+        },
+    }
+}
+
+/// The reply to a shutdown.
+pub fn shut_reply(s: &AbstractPool) -> ShutReply
+    ensures { spec.IsShutReply s.now result }
+{
+    match s.shutdown {
+        Some(place) => ShutReply::Closed(place),
+        None => ShutReply::Noted,
+    }
 }
 
 /// Whether this is the reply to a submission.

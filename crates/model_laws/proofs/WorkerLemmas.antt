@@ -1,18 +1,19 @@
 -- What a worker may say stays so while others go on, since it is read off the worker's own entries.
-use Rattle.std.proofs.Common.{◌≡◌, ◌≢◌, ◌≤◌, ◌<◌, ◌⊎◌, length, arith, Some, IsTrue, inl, inr, ℕ, List, [], ◌∷◌, ◌++◌, None, true, false, cond, refl, sym, ap, subst, ◌∙◌, append-nil, IsSomeAnd}
+use Rattle.std.proofs.Common.{◌≡◌, ◌≢◌, ◌≤◌, ◌<◌, ◌⊎◌, length, arith, Some, IsTrue, inl, inr, ℕ, List, [], ◌∷◌, ◌++◌, None, true, refl, sym, ap, subst, ◌∙◌, append-nil, IsSomeAnd}
 use Rattle.std.specs.Prelude.{◌==◌}
-use Rattle.std.proofs.lemmas.Bool.{cond-false, ne_eqb}
-use Rattle.std.proofs.lemmas.List.Elements.{All-head, All-tail, filter-append}
+use Rattle.std.proofs.lemmas.Bool.{cond-false}
+use Rattle.std.proofs.lemmas.List.Elements.{All-tail, filter-append}
 use Rattle.net_base.specs.declared.end_cause.EndCause.{EndCause}
 use Rattle.net_base.specs.declared.numbers.CallerNo.{CallerNo}
 use Rattle.net_base.specs.declared.numbers.ConnNo.{ConnNo}
 use Rattle.net_base.specs.declared.numbers.Moment.{Moment}
 use Rattle.model_laws.specs.WorkerLaws.{GoesOn, IsWorkersWord, WorkersWordsStayLegal, WorkersMayGoOnTaking, WorkersMayGoOnAsking, OthersChangeNoOwnCalls}
 use Rattle.model_histories.proofs.AllowedLemmas.{reports_as_state_says, ends_as_state_says, works_as_state_says}
+use Rattle.model_histories.proofs.SaidLemmas.{not_own, own_same}
 use Rattle.model_histories.specs.Histories.{run}
 use Rattle.model_histories.specs.Legal.{IsWorkersEntry, MayTake, MayTakeAt, MayReportAt, MayCloseAt, IsReply, IsLegal}
 use Rattle.model_histories.specs.Port.{PortView, NoneOf, Held, held_from, MayWork, IsReportable, IsEndable}
-use Rattle.model_histories.specs.Reading.{calls_of, given_by, Own, own_from}
+use Rattle.model_histories.specs.Reading.{calls_of}
 use Rattle.model_histories.specs.Working.{MayWorkAt}
 use Rattle.model_settling.specs.Settling.{IsDue}
 use Rattle.model_steps.specs.After.{noted}
@@ -30,10 +31,6 @@ use Rattle.model_authority.specs.Statuses.{is_busy}
 
 -- ---- what is read off a history
 
--- the first of such entries isn't the caller's
-not_own : (who : CallerNo) (e : Entry) (es : List Entry) → NoneOf who (e ∷ es) → (e.who.0 == who.0) ≡ false
-not_own who e es none = ne_eqb e.who.0 who.0 (λ same. All-head (λ e. e.who ≢ who) e es none (ap (λ n. record { 0 = n }) same))
-
 no_calls : (who : CallerNo) (es : List Entry) → NoneOf who es → calls_of es who ≡ []
 no_calls who [] none = refl
 no_calls who (e ∷ es) none =
@@ -46,25 +43,8 @@ same_calls who h more none =
     ∙ ap (λ es. calls_of h who ++ es) (no_calls who more none)
     ∙ append-nil (calls_of h who)
 
--- whatever stands before
-no_own : (before : List Entry) (who : CallerNo) (es : List Entry) → NoneOf who es → own_from before who es ≡ []
-unfolding own_from
-no_own before who [] none = refl
-no_own before who (e ∷ es) none =
-    let own : Own = record { entry = e; orders = given_by before e.act } in
-    let rest : List Own = own_from (before ++ e ∷ []) who es in
-    cond-false (e.who.0 == who.0) (own ∷ rest) rest (not_own who e es none)
-    ∙ no_own (before ++ e ∷ []) who es (All-tail (λ e. e.who ≢ who) e es none)
-
-same_own : (before : List Entry) (who : CallerNo) (h more : List Entry) → NoneOf who more → own_from before who (h ++ more) ≡ own_from before who h
-unfolding own_from
-same_own before who [] more none = no_own before who more none
-same_own before who (e ∷ h) more none =
-    let own : Own = record { entry = e; orders = given_by before e.act } in
-    ap (λ rest. cond (e.who.0 == who.0) (own ∷ rest) rest) (same_own (before ++ e ∷ []) who h more none)
-
 pub others_change_no_own_calls : OthersChangeNoOwnCalls
-others_change_no_own_calls who h more none = record { calls = same_calls who h more none; own = same_own [] who h more none }
+others_change_no_own_calls who h more none = record { calls = same_calls who h more none; own = own_same who h more none }
 
 -- ---- what a worker may say, by what it holds
 

@@ -1,17 +1,13 @@
-use Rattle.std.proofs.Common.{◌≡◌, ◌≢◌, ◌<◌, ◌≤◌, ◌+◌, ◌-◌, ◌++◌, ◌∷◌, [], ℕ, zero, suc, List, Option, Some, None, length, drop, get_or, slice_get, refl, sym, ap, ◌∙◌, arith, add-one}
-use Rattle.std.proofs.Math.Seq.{drop-cons}
+use Rattle.std.proofs.Common.{◌≡◌, ◌≢◌, ◌<◌, ◌≤◌, ◌+◌, ◌-◌, ◌++◌, ◌∷◌, [], ℕ, zero, suc, List, Some, None, length, drop, refl, sym, ap, ◌∙◌, arith}
 use Rattle.std.proofs.lemmas.List.{drop_all}
+use Rattle.model_histories.proofs.OrderLemmas.{at_place}
 use Rattle.model_histories.specs.Reading.{accepted_by, submissions_of}
 use Rattle.model_authority.proofs.NumberLemmas.{numbered_at}
 use Rattle.model_authority.specs.Lists.{numbered}
 use Rattle.model_values.specs.declared.entry.Entry.{Entry}
 use Rattle.model_values.specs.declared.submission.Submission.{Submission}
-use Rattle.judged_port.proofs.orders.submission.Goals as goal
-use Rattle.judged_port.proofs.orders.submission.Goals.{in-Some+else-left-eq1, in_default}
-
--- the entry at this place stands before those behind it
-at_place : (h : List Entry) (i : ℕ) (x : Entry) → i < length h → x ≡ get_or h i x → drop i h ≡ x ∷ drop (i + 1) h
-at_place h i x lt is = drop-cons h i x lt ∙ ap (λ (y : Entry). y ∷ drop (suc i) h) (sym is) ∙ ap (λ (k : ℕ). x ∷ drop k h) (sym (add-one i))
+use Rattle.model_histories.proofs.orders.submission.Goals as goal
+use Rattle.model_histories.proofs.orders.submission.Goals.{in-Some+else-left-eq1, in_default}
 
 -- an entry that accepts nothing is passed over
 passed : (left : ℕ) (x : Entry) (rest : List Entry) → [] ≡ accepted_by x.act → numbered left (submissions_of (x ∷ rest)) ≡ numbered left (submissions_of rest)

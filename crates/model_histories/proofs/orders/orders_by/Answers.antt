@@ -7,7 +7,7 @@ use Rattle.net_base.specs.declared.numbers.ConnNo.{ConnNo}
 use Rattle.model_values.specs.declared.entry.Entry.{Entry}
 use Rattle.model_values.specs.declared.order.Order.{Order}
 use Rattle.model_values.specs.declared.order.OrderMark.{OrderMark}
-use Rattle.judged_port.proofs.orders.orders_by.Goals as goal
+use Rattle.model_histories.proofs.orders.orders_by.Goals as goal
 
 -- the orders of one more mark
 orders_more : (f : OrderMark → List Order) (marks : List OrderMark) (i : ℕ) (x : OrderMark) → i < length marks → x ≡ get_or marks i x →

@@ -2,8 +2,7 @@
 ghost use Rattle.std.specs.Prelude.{◌≡◌, ◌++◌, IfOk, OnOk, slice_get};
 ghost use Rattle.std.specs.List.{flat_map};
 ghost use Rattle.std.specs.Option.{option_copied};
-ghost use Rattle.judged_port.specs.Judged.{one_of};
-ghost use Rattle.model_histories.specs.Reading.{accepted_by, dialed_by, order_of, start_of, submissions_of, targets_of};
+ghost use Rattle.model_histories.specs.Reading.{accepted_by, dialed_by, one_of, order_of, start_of, submissions_of, targets_of};
 ghost use Rattle.model_authority.specs.Lists as lists;
 
 use model_values::{Act, Entry, Order, OrderMark, Orders, Submission, SubmitReply};
@@ -110,8 +109,9 @@ fn add_order(
     }
 }
 
-/// The orders of these marks.
-pub(crate) fn orders_by(
+/// The orders of these marks: each start has the request that these entries submit, as it goes to where they dial the
+/// connection.
+pub fn orders_by(
     alloc: Global,
     entries: &[Entry],
     c: ConnNo,
