@@ -158,6 +158,7 @@ impl JudgedPort {
     }
 
     /// Dials this connection.
+    #[tactic(auto, using(crate::proofs::JudgedLemmas::new_to))]
     fn dial(
         &mut self,
         alloc: Global,
@@ -169,6 +170,7 @@ impl JudgedPort {
         requires next { dial_of s.now ≡ Some number }
         ensures { MatchResult result (λ reply. IsSeekAt (port_of self.old) moment reply (port_of self.new)) (λ _. LeavesNone (port_of self.old) (port_of self.new)) }
     {
+        let _config = &self.config;
         wanted_are_untouched();
         let conn = conn_of(number)?;
         let target = target_of(alloc, s, number)?;
