@@ -4,21 +4,19 @@ use Rattle.std.specs.Prelude.{◌==◌, ◌||◌, All}
 use Rattle.std.specs.List.{flat_map}
 use Rattle.std.proofs.lemmas.Bool.{eq-eqb}
 use Rattle.std.proofs.lemmas.List.{append-nil}
-use Rattle.std.proofs.lemmas.List.Elements.{All-nil, All-cons, All-append, All-filter}
+use Rattle.std.proofs.lemmas.List.Elements.{All-nil, All-cons, All-append}
 use Rattle.net_base.specs.declared.numbers.CallerNo.{CallerNo}
 use Rattle.net_base.specs.declared.numbers.ConnNo.{ConnNo}
 use Rattle.net_base.specs.declared.numbers.ExchangeNo.{ExchangeNo}
 use Rattle.net_base.specs.declared.numbers.Moment.{Moment}
 use Rattle.judged_port.specs.Judged.{JudgedView, port_of, Settles, Follows, LeavesFirst, IsRest}
-use Rattle.model_histories.proofs.SaidLemmas.{grows_none}
 use Rattle.model_histories.specs.Histories.{IsHistory, run}
 use Rattle.model_histories.specs.Looks.{IsLook, IsLateAt, IsNothingOrdered, NoneWanted}
-use Rattle.model_histories.specs.Port.{PortView, LeavesNone, IsLookAt, IsNewTo, IsSeekAt, IsOrdersAt}
-use Rattle.model_histories.specs.Reading.{is_about, order_of}
+use Rattle.model_histories.specs.Port.{PortView, LeavesNone, IsLookAt, IsSeekAt, IsOrdersAt}
+use Rattle.model_histories.specs.Reading.{order_of}
 use Rattle.model_histories.specs.Replies.{dial_of, waits_for_dial}
-use Rattle.model_histories.specs.Working.{WantedAreUntouched}
-use Rattle.model_settling.proofs.LowestLemmas.{lowest_is, lowest_none}
-use Rattle.model_authority.proofs.NumberLemmas.{and_value, passing}
+use Rattle.model_settling.proofs.LowestLemmas.{lowest_none}
+use Rattle.model_authority.proofs.NumberLemmas.{and_value}
 use Rattle.model_authority.specs.Lists.{numbered}
 use Rattle.model_values.specs.declared.entry.Act.{Act}
 use Rattle.model_values.specs.declared.entry.Act.TheVariants.{Tick, Orders}
@@ -46,7 +44,16 @@ settles_then a b d s t = record {
 
 pub judged_none : (v : JudgedView) → IsHistory v.config v.seen → LeavesNone (port_of v) (port_of v)
 judged_none v history = record {
-  grows = grows_none (port_of v);
+  grows = record {
+    config = refl;
+    mine = refl;
+    adds = refl;
+    lender = refl;
+    more = [];
+    seen = sym (append-nil v.seen);
+    by = All-nil (λ (x : Entry). IsTrue (x.who.0 == v.mine.0 || x.who.0 == 0));
+    history = λ h. h;
+  };
   history = history;
   others = [];
   seen = sym (append-nil v.seen);
@@ -115,16 +122,6 @@ look_late v w moment e reply f answers = record { answers = answers; leaves = in
 pub none_wanted : (s : AbstractPool) → dial_of s ≡ None → NoneWanted s
 unfolding dial_of
 none_wanted s none number = lowest_none waits_for_dial s.connections none number
-
--- who is to dial a connection has said nothing of it
-pub new_to : (v : PortView) (s : AbstractPool) (c : ConnNo) (number : ℕ) → WantedAreUntouched → IsHistory v.config v.seen → s ≡ run v.config v.seen → dial_of s ≡ Some number → c.0 ≡ number →
-    IsNewTo v c
-unfolding dial_of
-new_to v s c number law history state next same =
-    let wanted = passing waits_for_dial s.connections number (lowest_is waits_for_dial s.connections number next).passes in
-    let there : numbered c.0 (run v.config v.seen).connections ≡ Some wanted.0 =
-    ap (λ (n : ℕ). numbered n (run v.config v.seen).connections) same ∙ ap (λ (t : AbstractPool). numbered number t.connections) (sym state) ∙ wanted.1 in
-    All-filter (λ (x : Entry). x.who.0 == v.mine.0) (λ (x : Entry). ¬ IsTrue (is_about c x.act)) v.seen (law v.config v.seen c wanted.0 history there wanted.2)
 
 pub rests : (v : PortView) (moment : Moment) (reply : Seek) → LeavesNone v v → IsRest (run v.config v.seen) reply → IsSeekAt v moment reply v
 rests v moment (seek.Dial conn target) none rest = absurd rest

@@ -1,5 +1,5 @@
 -- The port that keeps nothing but its history, and has each longer one judged.
-use Rattle.std.specs.Prelude.{◌≡◌, ◌≢◌, List, [], ◌∷◌, ◌++◌, ◌==◌, ◌||◌, All}
+use Rattle.std.specs.Prelude.{◌≡◌, ◌≢◌, List, [], ◌∷◌, ◌++◌, ◌==◌, ◌||◌, Option, Some, None, All}
 use Rattle.net_base.specs.declared.numbers.CallerNo.{CallerNo}
 use Rattle.net_base.specs.declared.numbers.Moment.{Moment}
 use Rattle.model_histories.specs.Histories.{IsHistory}
@@ -47,3 +47,8 @@ abbrev pub IsRest : AbstractPool → Seek → Type 0
 IsRest s (seek.Dial conn target) = ⊥
 IsRest s (seek.Stop place) = IsStop s place
 IsRest s (seek.Nothing n) = IsNothingWanted s n
+
+-- the item alone, where there is one
+abbrev pub one_of : {A : Type 0} → Option A → List A
+one_of None = []
+one_of (Some x) = x ∷ []

@@ -1,13 +1,14 @@
 // The answers that no entry carries, and what a dial asks for.
-ghost use Rattle.std.specs.Prelude.{◌≡◌, None, IfOk};
+ghost use Rattle.std.specs.Prelude.{◌≡◌, ◌↔◌, None, All, IsTrue, IfOk};
 ghost use Rattle.judged_port.specs.Judged.{IsRest};
 ghost use Rattle.model_histories.specs.Looks.{IsLook};
+ghost use Rattle.model_histories.specs.Reading.{calls_of, is_about};
 ghost use Rattle.model_histories.specs.Replies.{dial_of};
 
 use model_authority::numbered;
 use model_histories::own_exchange;
-use model_values::{AbstractPool, Look, Seek, Status};
-use net_base::{CallerNo, ExchangeNo, NoMem, PlainValue, Target};
+use model_values::{AbstractPool, Act, Entry, Look, Seek, Status};
+use net_base::{CallerNo, ConnNo, ExchangeNo, NoMem, PlainValue, Target};
 use std::alloc::Global;
 
 /// What a caller sees of an exchange.
@@ -46,4 +47,29 @@ pub(crate) fn target_of(alloc: Global, s: &AbstractPool, number: u64) -> Result<
         None => Err(NoMem),
         Some(c) => c.group.target.copy(alloc),
     }
+}
+
+/// Whether the act is one of this connection's worker.
+fn is_about_conn(act: &Act, c: ConnNo) -> bool
+    ensures { result ≡ is_about c act.now }
+{
+    match act {
+        Act::Dial { conn, .. } => conn.0 == c.0,
+        Act::Orders { conn, .. } => conn.0 == c.0,
+        Act::Reported { conn, .. } => conn.0 == c.0,
+        Act::Closed { conn, .. } => conn.0 == c.0,
+        _ => false,
+    }
+}
+
+/// Whether no entry of the caller is about this connection.
+pub(crate) fn is_new_to(entries: &[Entry], who: CallerNo, c: ConnNo) -> bool
+    ensures { IsTrue result → All (λ e. ¬ IsTrue (is_about c e.act)) (calls_of entries.now who) }
+{
+    for e in entries {
+        if e.who.0 == who.0 && is_about_conn(&e.act, c) {
+            return false;
+        }
+    }
+    true
 }

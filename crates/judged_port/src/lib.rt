@@ -8,7 +8,9 @@
 mod allowed;
 mod answers;
 mod longer;
+mod orders;
 mod port;
+mod replies;
 
 pub use port::JudgedPort;
 

@@ -1,21 +1,21 @@
 // The port of a pool that keeps nothing but its history.
-ghost use Rattle.std.specs.Prelude.{◌≡◌, ◌≢◌, ◌↔◌, ◌≤◌, [], Some, IsTrue, IfOk, OnOk, MatchResult, length};
+ghost use Rattle.std.specs.Prelude.{◌≡◌, ◌≢◌, ◌↔◌, ◌≤◌, [], IsTrue, IfOk, OnOk, MatchResult, length};
 ghost use Rattle.judged_port.specs.Judged.{LeavesFirst, port_of};
 ghost use Rattle.model_histories.specs.Histories.{IsHistory, run};
 ghost use Rattle.model_histories.specs.Looks.{IsLateAt};
 ghost use Rattle.model_histories.specs.Port.{IsLookAt, IsOrdersAt, IsSeekAt, Leaves, LeavesNone};
-ghost use Rattle.model_histories.specs.Replies.{dial_of};
 ghost use Rattle.model_steps.specs.After as after;
 ghost use Rattle.model_values.specs.declared.entry.Act.TheVariants as act;
 ghost use Rattle.model_values.specs.Limits.{most_judged};
 
-use crate::answers::{look_at, rest_of, target_of};
+use crate::answers::{is_new_to, look_at, rest_of, target_of};
 use crate::longer::{followed, judged};
-use model_authority::numbered;
-use model_histories::{
-    PoolPort, cancel_reply, change_reply, is_late, next_dial, orders_by, preconnect_reply,
-    resolved_reply, shut_reply, submit_reply, wanted_are_untouched,
+use crate::orders::orders_by;
+use crate::replies::{
+    cancel_reply, change_reply, preconnect_reply, resolved_reply, shut_reply, submit_reply,
 };
+use model_authority::numbered;
+use model_histories::{PoolPort, is_late, next_dial};
 use model_steps::note;
 use model_values::{
     AbstractPool, Act, CancelReply, ChangeReply, Config, ConnTicket, Entry, History, Look,
@@ -158,7 +158,6 @@ impl JudgedPort {
     }
 
     /// Dials this connection.
-    #[tactic(auto, using(crate::proofs::JudgedLemmas::new_to))]
     fn dial(
         &mut self,
         alloc: Global,
@@ -166,13 +165,12 @@ impl JudgedPort {
         s: &AbstractPool,
         number: u64,
     ) -> Result<Seek, NoMem>
-        requires state { s.now ≡ run self.old.config self.old.seen }
-        requires next { dial_of s.now ≡ Some number }
         ensures { MatchResult result (λ reply. IsSeekAt (port_of self.old) moment reply (port_of self.new)) (λ _. LeavesNone (port_of self.old) (port_of self.new)) }
     {
-        let _config = &self.config;
-        wanted_are_untouched();
-        let conn = conn_of(number)?;
+        let conn = conn_of(number);
+        if !is_new_to(self.history.as_slice(), self.who, conn) {
+            return Err(NoMem);
+        }
         let target = target_of(alloc, s, number)?;
         let goes_to = target.copy(alloc)?;
         self.enter(alloc, moment, Act::Dial { conn, target })?;
@@ -198,12 +196,10 @@ impl JudgedPort {
 }
 
 /// The number of a connection. None has a greater number than 4294967295.
-fn conn_of(number: u64) -> Result<ConnNo, NoMem>
-    ensures { IfOk result (λ conn. conn.0 ≡ number) }
-{
+fn conn_of(number: u64) -> ConnNo {
     match u32::try_from(number) {
-        Ok(no) => Ok(ConnNo(no)),
-        Err(_) => Err(NoMem),
+        Ok(no) => ConnNo(no),
+        Err(_) => ConnNo(0),
     }
 }
 
@@ -217,9 +213,6 @@ impl PoolPort for JudgedPort {
         ask: Submission,
     ) -> Result<SubmitReply, NoMem> {
         let s = self.state_at(alloc, moment)?;
-        if s.exchanges.len() as u64 == u64::MAX {
-            return Err(NoMem);
-        }
         let reply = submit_reply(&s, &ask);
         self.enter(alloc, moment, Act::Submit { ask, reply })?;
         Ok(reply)
