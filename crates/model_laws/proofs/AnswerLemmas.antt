@@ -1,18 +1,17 @@
 -- Each call of a port has an answer, and a call that leaves no entry changes nothing where nobody else calls.
-use Rattle.std.proofs.Common.{◌≡◌, ◌≢◌, ◌≤◌, ◌<◌, ◌⊎◌, ◌+◌, ℕ, zero, suc, List, [], ◌∷◌, ◌++◌, Option, Some, None, Bool, true, false, inl, inr, refl, sym, ap, subst, ◌∙◌, arith, length, take, slice_get, get_or, ◌==◌, IsTrue}
-use Rattle.std.specs.Prelude.{All, IsSomeAnd}
+use Rattle.std.proofs.Common.{◌≡◌, ◌≢◌, ◌<◌, ℕ, List, [], ◌∷◌, ◌++◌, Option, Some, None, Bool, true, inl, inr, refl, sym, ap, subst, ◌∙◌, arith, length, slice_get, get_or, ◌==◌, IsTrue}
+use Rattle.std.specs.Prelude.{All}
 use Rattle.std.specs.List.{flat_map}
 use Rattle.std.proofs.Math.Seq.{take-append_seam}
 use Rattle.std.proofs.lemmas.List.{append-nil, append_cancel_left}
 use Rattle.std.proofs.lemmas.List.Elements.{All-nil, All-cons, All-head, All-filter}
-use Rattle.net_base.specs.declared.end_cause.EndCause.{EndCause}
 use Rattle.net_base.specs.declared.numbers.CallerNo.{CallerNo}
 use Rattle.net_base.specs.declared.numbers.ConnNo.{ConnNo}
 use Rattle.net_base.specs.declared.numbers.ExchangeNo.{ExchangeNo}
 use Rattle.net_base.specs.declared.numbers.Moment.{Moment}
 use Rattle.model_laws.proofs.LongerLemmas.{calls_make_histories}
 use Rattle.model_laws.proofs.SettlingLemmas.{settling_ends}
-use Rattle.model_laws.specs.PortLaws.{IsPort, CanLeave, CanAnswer, EachCallHasAnAnswer, WhatLeavesNoneChangesNothing}
+use Rattle.model_laws.specs.PortLaws.{IsPort, CanLeave, EachCallHasAnAnswer, WhatLeavesNoneChangesNothing}
 use Rattle.model_laws.specs.SettlingLaws.{AreSettling}
 use Rattle.model_histories.proofs.AllowedLemmas.{reports_as_state_says, ends_as_state_says, works_as_state_says}
 use Rattle.model_histories.proofs.ReplyLemmas.{submit_is, cancel_is, change_is, preconnect_is, resolved_is, shut_is, dial_is}
@@ -22,7 +21,7 @@ use Rattle.model_histories.specs.Legal.{IsReply, IsWorkersEntry}
 use Rattle.model_histories.specs.Looks.{HasEndedBy, IsLook, IsLateAt, NoneWanted}
 use Rattle.model_histories.specs.Port.{PortView, LeavesNone, IsLookAt, IsSeekAt, IsOrdersAt, IsNewTo, MayWorkBy}
 use Rattle.model_histories.specs.Reading.{is_about, order_of}
-use Rattle.model_histories.specs.Replies.{own_exchange, submit_reply, cancel_reply, change_reply, preconnect_reply, resolved_reply, shut_reply, waits_for_dial, dial_of, IsDial}
+use Rattle.model_histories.specs.Replies.{own_exchange, submit_reply, cancel_reply, change_reply, preconnect_reply, resolved_reply, shut_reply, waits_for_dial, dial_of}
 use Rattle.model_authority.proofs.NumberLemmas.{option_cases, value_and, and_value, passing}
 use Rattle.model_authority.specs.Lists.{numbered}
 use Rattle.model_authority.specs.Statuses.{has_ended, is_wanted, is_busy}
@@ -30,7 +29,6 @@ use Rattle.model_authority.specs.Ways.{group_for}
 use Rattle.model_settling.proofs.DueLemmas.{due_late, settled_none}
 use Rattle.model_settling.proofs.LowestLemmas.{lowest_none}
 use Rattle.model_settling.specs.Due.{due_of}
-use Rattle.model_settling.specs.Settling.{IsDue}
 use Rattle.model_steps.specs.After.{noted, after}
 use Rattle.model_values.specs.declared.config.Config.{Config}
 use Rattle.model_values.specs.declared.entry.Act.{Act}

@@ -25,7 +25,7 @@ use Rattle.model_authority.proofs.NumberLemmas.{passing}
 use Rattle.model_authority.specs.Ways.{target_of, group_of, group_for}
 use Rattle.model_values.specs.declared.config.Config.{Config}
 use Rattle.model_values.specs.declared.entry.Act.{Act}
-use Rattle.model_values.specs.declared.entry.Act.TheVariants.{Preconnect, Closed, Want}
+use Rattle.model_values.specs.declared.entry.Act.TheVariants.{Preconnect, Want}
 use Rattle.model_values.specs.declared.entry.Entry.{Entry}
 use Rattle.model_values.specs.declared.reply.PreconnectReply.{PreconnectReply}
 use Rattle.model_values.specs.declared.reply.PreconnectReply.TheVariants as preconnect

@@ -1,11 +1,9 @@
 -- A legal call and what settles behind it make a history longer, and what is due doesn't look at the number of entries.
-use Rattle.std.proofs.Common.{◌+◌, ◌≡◌, ◌↔◌, ℕ, zero, suc, max, List, [], ◌∷◌, ◌++◌, Option, Some, inl, inr, refl, sym, ap, subst, ◌∙◌, take, slice_get}
-use Rattle.net_base.specs.declared.numbers.Moment.{Moment}
+use Rattle.std.proofs.Common.{◌+◌, ◌≡◌, ℕ, zero, suc, max, List, [], ◌∷◌, ◌++◌, Some, inl, inr, refl, sym, subst, ◌∙◌, take, slice_get}
 use Rattle.model_laws.specs.LongerLaws.{CallsMakeHistories, DueIgnoresEntries, LateIgnoresEntries}
 use Rattle.model_laws.specs.SettlingLaws.{AreSettling}
 use Rattle.model_histories.proofs.HistoryLemmas.{AreStanding, each_standing}
-use Rattle.model_histories.specs.Histories.{opening, run_from, run, MayStand, IsHistory}
-use Rattle.model_histories.specs.Legal.{IsPoolsEntry}
+use Rattle.model_histories.specs.Histories.{opening, run_from, run, MayStand}
 use Rattle.model_authority.specs.Ways.{alternatives_of, chosen_alternative, target_for, target_of, group_of, group_for, is_alternative, addresses_of, is_coalesced, has_way, way_of, is_usable}
 use Rattle.model_settling.proofs.DueLemmas.{due_is, due_unique}
 use Rattle.model_settling.specs.Counts.{count_total, count_in_group, openings_of, background_leases}

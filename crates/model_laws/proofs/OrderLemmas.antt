@@ -214,13 +214,14 @@ orders_are_the_dialers config h n x c goes_to comes is =
 
 -- ---- starts
 
-kept_in : {A : Type 0} (test : A → Bool) (xs : List A) (x : A) → Contains (filter test xs) x → Contains xs x × (test x ≡ true)
+-- what a filter leaves
+pub kept_in : {A : Type 0} (test : A → Bool) (xs : List A) (x : A) → Contains (filter test xs) x → Contains xs x × (test x ≡ true)
 kept_in test xs x h = (
   All-contains (λ y. Contains xs y) (filter test xs) x (All-filter test (λ y. Contains xs y) xs (All-contains_itself xs)) h,
   All-contains (λ y. test y ≡ true) (filter test xs) x (filter_passes test xs) h,
 )
 
-in_kept : {A : Type 0} (test : A → Bool) (xs : List A) (x : A) → Contains xs x → test x ≡ true → Contains (filter test xs) x
+pub in_kept : {A : Type 0} (test : A → Bool) (xs : List A) (x : A) → Contains xs x → test x ≡ true → Contains (filter test xs) x
 in_kept test [] x h t = h
 in_kept {A} test (y ∷ xs) x h t =
     let rest : Contains xs x → Contains (filter test xs) x = λ later. in_kept test xs x later t in

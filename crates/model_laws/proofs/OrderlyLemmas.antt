@@ -13,7 +13,7 @@ use Rattle.model_histories.proofs.EffectLemmas.{IsNew, IsReported, conn_of, Chan
 use Rattle.model_histories.proofs.OwnLemmas.{IsReportedIn, reported_in}
 use Rattle.model_histories.proofs.RunLemmas.{config-after}
 use Rattle.model_histories.specs.Histories.{opening, MayStand}
-use Rattle.model_histories.specs.Legal.{IsWorkersEntry, MayReport, MayTake, IsReply, IsLegal}
+use Rattle.model_histories.specs.Legal.{IsWorkersEntry, MayReport, MayTake, IsReply}
 use Rattle.model_settling.specs.Settling.{can_use, IsDue}
 use Rattle.model_steps.specs.After.{noted, after_act, after}
 use Rattle.model_authority.proofs.NumberLemmas.{passing}
@@ -50,10 +50,10 @@ StayOrderly config xs ys = (n : ℕ) → OrderlyStays config (numbered n xs) (nu
 -- ---- acts
 
 -- what is asked here of the connection that an act is about
-abbrev Asks : AbstractPool → Act → Connection → Type 0
+abbrev pub Asks : AbstractPool → Act → Connection → Type 0
 Asks s (Dial c target) x = IsTrue (is_wanted x.phase)
 Asks s (Orders c sent orders) x = orders ≡ x.orders
-Asks s (Reported c sent r) x = IsReportedIn x.phase r
+Asks s (Reported c sent r) x = MayReport x r
 Asks s (Assign e c r by) x = IsTrue (is_open x.phase) × IsTrue (has_capacity s.config x) × (r.0 ≡ x.next_stream)
 Asks s _ x = Unit {0}
 
@@ -67,7 +67,7 @@ orderly_change : (s : AbstractPool) (who : CallerNo) (act : Act) (x y : Connecti
 orderly_change s who (Dial c target) x y asked is h = subst (HasStreamsInOrder s.config) (sym is) (orderly_dialing s.config who x asked h)
 orderly_change s who (Orders c sent orders) x y asked is h =
     subst (HasStreamsInOrder s.config) (sym is) (orderly_with_taken s.config orders (with_sent sent x) asked (orderly_sent s.config sent x h))
-orderly_change s who (Reported c sent r) x y asked is h = orderly_reported s sent r x y asked is h
+orderly_change s who (Reported c sent r) x y asked is h = orderly_reported s sent r x y (reported_in x r asked) is h
 orderly_change s who (Closed c sent cause heard) x y asked is h = subst (HasStreamsInOrder s.config) (sym is) (orderly_gone s.config (with_sent sent x) (orderly_sent s.config sent x h))
 orderly_change s who (Assign e c r by) x y asked is h =
     subst (HasStreamsInOrder s.config) (sym is) (orderly_with_start s.config s.config.last_stream e r x asked.0 asked.1 asked.2 h)
@@ -99,16 +99,16 @@ asked_due s m _ due x is_item = tt
 asked_reply : (s : AbstractPool) (who : CallerNo) (act : Act) → IsReply s who act → (x : Connection) → numbered (conn_of act) s.connections ≡ Some x → Asks s act x
 asked_reply s who (Dial c target) fit x is_item = at_item (λ y. IsTrue (is_wanted y.phase)) (numbered c.0 s.connections) x fit.lowest.passes is_item
 asked_reply s who (Orders c sent orders) fit x is_item = (at_item (λ y. IsWorkersEntry y who sent × MayTake y orders) (numbered c.0 s.connections) x fit is_item).1.1
-asked_reply s who (Reported c sent r) fit x is_item = reported_in x r (at_item (λ y. IsWorkersEntry y who sent × MayReport y r) (numbered c.0 s.connections) x fit is_item).1
+asked_reply s who (Reported c sent r) fit x is_item = (at_item (λ y. IsWorkersEntry y who sent × MayReport y r) (numbered c.0 s.connections) x fit is_item).1
 asked_reply s who (Assign e c r by) fit x is_item = absurd fit
 asked_reply s who _ fit x is_item = tt
 
-stay_legal : (s : AbstractPool) (e : Entry) → IsLegal s e → StayOrderly s.config s.connections (after s e).connections
+pub asked_stand : (s : AbstractPool) (e : Entry) → MayStand s e → (x : Connection) → numbered (conn_of e.act) (noted s e.moment).connections ≡ Some x → Asks (noted s e.moment) e.act x
+asked_stand s e stand = elim stand.legal [ inl pools ↦ asked_due s e.moment e.act pools.due | inr calls ↦ asked_reply (noted s e.moment) e.who e.act calls.reply ]
+
+stay_stand : (s : AbstractPool) (e : Entry) → MayStand s e → StayOrderly s.config s.connections (after s e).connections
 unfolding after noted
-stay_legal s e legal = elim legal [
-  | inl pools ↦ stay_act (noted s e.moment) e.who e.act (asked_due s e.moment e.act pools.due)
-  | inr calls ↦ stay_act (noted s e.moment) e.who e.act (asked_reply (noted s e.moment) e.who e.act calls.reply)
-]
+stay_stand s e stand = stay_act (noted s e.moment) e.who e.act (asked_stand s e stand)
 
 orderly_at : (config : Config) (o : Option Connection) → ((y : Connection) → o ≡ Some y → HasStreamsInOrder config y) → OrderlyAt config o
 orderly_at config None each = tt
@@ -117,7 +117,7 @@ orderly_at config (Some y) each = each y refl
 pub orderly_after : (s : AbstractPool) (e : Entry) → MayStand s e → AreOrderly s → AreOrderly (after s e)
 orderly_after s e stand orderly number y is_item =
     let before : OrderlyAt s.config (numbered number s.connections) = orderly_at s.config (numbered number s.connections) (orderly number) in
-    let later : OrderlyAt s.config (Some y) = subst (OrderlyAt s.config) is_item (stay_legal s e stand.legal number before) in
+    let later : OrderlyAt s.config (Some y) = subst (OrderlyAt s.config) is_item (stay_stand s e stand number before) in
     subst (λ (config : Config). HasStreamsInOrder config y) (sym (config-after s e)) later
 
 pub orderly_opening : (config : Config) → AreOrderly (opening config)

@@ -11,7 +11,7 @@ use Rattle.net_base.specs.declared.numbers.ExchangeNo.{ExchangeNo}
 use Rattle.net_base.specs.declared.numbers.Moment.{Moment}
 use Rattle.net_base.specs.declared.numbers.StreamNo.{StreamNo}
 use Rattle.partition_keys.specs.declared.group.GroupKey.{GroupKey}
-use Rattle.model_changes.specs.Connections.{started_by, streams_started, closing, new_connection, dialing_by, suits, opened_with, refused_with, after_opened, stream_after, with_start, with_taken, gone, with_sent}
+use Rattle.model_changes.specs.Connections.{started_by, streams_started, new_connection, dialing_by, suits, opened_with, refused_with, after_opened, stream_after, with_start, with_taken, gone, with_sent}
 use Rattle.model_laws.proofs.AssignedLemmas.{place_parts}
 use Rattle.model_laws.proofs.StayLemmas.{stream_rises}
 use Rattle.model_laws.specs.LimitLaws.{HasPlace}
@@ -29,7 +29,7 @@ use Rattle.model_values.specs.declared.state.Phase.TheVariants.{Draining}
 
 -- ---- lists of streams
 
-all_none : (P : StreamNo → Type 0) (rs : List StreamNo) → rs ≡ [] → All P rs
+pub all_none : (P : StreamNo → Type 0) (rs : List StreamNo) → rs ≡ [] → All P rs
 all_none P rs none = subst (All P) (sym none) (All-nil P)
 
 none_left : (xs ys : List StreamNo) → length ys ≤ length xs → xs ≡ [] → ys ≡ []

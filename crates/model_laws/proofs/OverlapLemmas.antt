@@ -25,7 +25,7 @@ use Rattle.model_values.specs.declared.state.Status.{Status}
 use Rattle.model_values.specs.declared.state.Status.TheVariants.{Waiting, Leased, Ended}
 
 -- what waits has no lease
-waits_or_leased : (c : ConnNo) (r : StreamNo) (s : Status) → IsTrue (is_waiting s) → IsTrue (is_at c r s) → ⊥
+pub waits_or_leased : (c : ConnNo) (r : StreamNo) (s : Status) → IsTrue (is_waiting s) → IsTrue (is_at c r s) → ⊥
 waits_or_leased c r Waiting waits leased = absurd cc
 waits_or_leased c r (Leased conn stream by handed) waits leased = absurd cc
 waits_or_leased c r (Ended outcome) waits leased = absurd cc

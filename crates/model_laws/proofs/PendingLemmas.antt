@@ -33,7 +33,7 @@ use Rattle.model_values.specs.declared.state.AbstractPool.{AbstractPool}
 use Rattle.model_values.specs.declared.state.Connection.{Connection}
 use Rattle.model_values.specs.declared.state.Exchange.{Exchange}
 
-none_there : {A : Type 0} (x : A) → Contains [] x → ⊥
+pub none_there : {A : Type 0} (x : A) → Contains [] x → ⊥
 none_there x h = absurd (omega (arith, h.1))
 
 abbrev pub IsThere : AbstractPool → ExchangeNo → Type 0

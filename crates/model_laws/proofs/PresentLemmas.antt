@@ -8,7 +8,7 @@ use Rattle.net_base.specs.declared.numbers.CallerNo.{CallerNo}
 use Rattle.net_base.specs.declared.numbers.ExchangeNo.{ExchangeNo}
 use Rattle.net_base.specs.declared.numbers.Moment.{Moment}
 use Rattle.net_base.specs.declared.numbers.StreamNo.{StreamNo}
-use Rattle.model_changes.specs.Connections.{closing, suits, opened_with, refused_with, after_opened, with_start, gone, with_sent}
+use Rattle.model_changes.specs.Connections.{closing, suits, opened_with, refused_with, after_opened, with_start, with_sent}
 use Rattle.model_laws.proofs.FitLemmas.{same_item, Gives, IsFit}
 use Rattle.model_laws.proofs.TurnLemmas.{at_item}
 use Rattle.model_histories.proofs.EffectLemmas.{Lasting, Leaves, going_by, leaves_closing, IsReported, conn_of, Changes, IsAdding, effect_at}

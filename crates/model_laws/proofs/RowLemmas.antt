@@ -64,7 +64,7 @@ use Rattle.model_values.specs.declared.state.ProtoRow.{ProtoRow}
 -- ---- lists
 
 -- no pair of an empty list
-pairs_none : {A : Type 0} (R : A → A → Type 0) → AllPairs R []
+pub pairs_none : {A : Type 0} (R : A → A → Type 0) → AllPairs R []
 pairs_none R i j d before within = absurd (omega (arith, within))
 
 -- a change of each item that keeps what holds between two items keeps all pairs
@@ -86,7 +86,7 @@ pairs_take R n xs pairs i j d before within =
     (subst (R (get_or xs i d)) (sym (get_or-take n xs j d second)) (pairs i j d before there))
 
 -- an item at the end adds the pairs of each item with it
-pairs_push : {A : Type 0} (R : A → A → Type 0) (xs : List A) (y : A) → All (λ x. R x y) xs → AllPairs R xs → AllPairs R (xs ++ y ∷ [])
+pub pairs_push : {A : Type 0} (R : A → A → Type 0) (xs : List A) (y : A) → All (λ x. R x y) xs → AllPairs R xs → AllPairs R (xs ++ y ∷ [])
 pairs_push R xs y new pairs = all_pairs_push R xs y pairs (λ k d within. All-get_or (λ x. R x y) xs k d within new)
 
 -- what a filter leaves out isn't among what it leaves

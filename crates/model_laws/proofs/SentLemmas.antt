@@ -60,13 +60,13 @@ sent_to s sent n x c r y is_x unsent is_y started =
 -- ---- an act that hands a start
 
 -- the act takes orders of this connection, with a start of the stream
-record Hands (act : Act) (c : ConnNo) (r : StreamNo) : Type 0 where
-  sent : ℕ
-  orders : List OrderMark
-  is_orders : act ≡ Orders c sent orders
-  starts : list_any (is_start_of r) orders ≡ true
+pub record Hands (act : Act) (c : ConnNo) (r : StreamNo) : Type 0 where
+  pub sent : ℕ
+  pub orders : List OrderMark
+  pub is_orders : act ≡ Orders c sent orders
+  pub starts : list_any (is_start_of r) orders ≡ true
 
-hands : (act : Act) (c : ConnNo) (r : StreamNo) → hands_by c r act ≡ true → Hands act c r
+pub hands : (act : Act) (c : ConnNo) (r : StreamNo) → hands_by c r act ≡ true → Hands act c r
 hands (Orders conn sent orders) c r h =
     let parts = and_parts (conn.0 == c.0) (list_any (is_start_of r) orders) h in
     let whole : ℕ → ConnNo = λ k. record { 0 = k } in

@@ -13,7 +13,7 @@ use Rattle.model_changes.specs.Connections.{closing, idle_from, has_run_out, idl
 use Rattle.model_histories.proofs.EditLemmas.{edit_none}
 use Rattle.model_histories.specs.Histories.{run_from}
 use Rattle.model_histories.specs.Legal.{IsPoolsEntry}
-use Rattle.model_laws.specs.SettlingLaws.{is_unended, waits, is_present, is_up, left_to_do, SettlingFalls, AreSettling, SettlingIsBounded}
+use Rattle.model_laws.specs.SettlingLaws.{is_unended, waits, is_present, is_up, left_to_do, SettlingFalls, SettlingIsBounded}
 use Rattle.model_settling.specs.Counts.{count_total}
 use Rattle.model_settling.specs.Room.{may_background_start, is_eligible, is_total_full, has_room_but_total, has_room}
 use Rattle.model_settling.specs.Settling.{has_passed, has_expired, has_lapsed, can_use, can_start, can_open, is_idle, is_fresh_h2, IsExpire, IsLapse, IsAssign, IsWant, IsEvict, IsDue}
@@ -33,7 +33,7 @@ use Rattle.model_values.specs.declared.state.Phase.TheVariants.{Closing, Drainin
 use Rattle.model_values.specs.declared.state.Status.{Status}
 use Rattle.model_values.specs.declared.state.Status.TheVariants.{Waiting, Leased, Ended}
 use Rattle.model_authority.proofs.NumberLemmas.{option_cases, numbered_at, passing}
-use Rattle.model_authority.proofs.PhaseLemmas.{is_each, each_phase, follows, excludes, or_else}
+use Rattle.model_authority.proofs.PhaseLemmas.{follows, excludes, or_else}
 use Rattle.model_authority.specs.Lists.{numbered, with_item, edit, is_nil}
 use Rattle.model_authority.specs.Statuses.{is_waiting, has_ended, is_open, is_draining, is_closing, is_gone, speaks_h2}
 use Rattle.model_authority.specs.Ways.{alternatives_of, has_capacity, has_way, is_usable}

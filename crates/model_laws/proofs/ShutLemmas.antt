@@ -1,9 +1,8 @@
 -- A shutdown is final: each exchange has ended, no connection is wanted, open or draining, and nothing begins.
 use Rattle.std.proofs.Common.{[], ◌∷◌, ◌≡◌, ◌<◌, ◌+◌, ◌⊎◌, ℕ, List, Option, Some, None, Bool, true, inl, inr, refl, sym, ap, subst, ◌∙◌, arith, is_some, IsSome, IsTrue}
-use Rattle.std.specs.Prelude.{◌||◌, not, if◌then◌else◌}
+use Rattle.std.specs.Prelude.{◌||◌, if◌then◌else◌}
 use Rattle.std.proofs.lemmas.Bool.{cond_both, both_ways, false_from_ne_true, or_from}
 use Rattle.net_base.specs.declared.end_cause.EndCause.{EndCause}
-use Rattle.net_base.specs.declared.identity.Identity.{Identity}
 use Rattle.net_base.specs.declared.numbers.CallerNo.{CallerNo}
 use Rattle.net_base.specs.declared.numbers.ConnNo.{ConnNo}
 use Rattle.net_base.specs.declared.numbers.ExchangeNo.{ExchangeNo}
@@ -127,7 +126,7 @@ down_closing c =
     (λ t. follows (λ p. is_closing p || is_gone p) is_down refl c.phase t) (λ f. refl)
 
 -- a shutdown leaves each connection down
-down_after_shutdown : (c : Connection) → is_down (after_shutdown c).phase ≡ true
+pub down_after_shutdown : (c : Connection) → is_down (after_shutdown c).phase ≡ true
 unfolding after_shutdown
 down_after_shutdown c =
     let up : Connection = if is_open c.phase || is_draining c.phase then closing c else c in

@@ -4,11 +4,13 @@ use Rattle.net_base.specs.declared.numbers.ExchangeNo.{ExchangeNo}
 use Rattle.partition_keys.specs.declared.group.GroupKey.{GroupKey}
 use Rattle.model_changes.specs.Connections.{streams_started}
 use Rattle.model_laws.proofs.AgainLemmas.{EachMoves, moves_after, moves_opening}
+use Rattle.model_laws.proofs.AwaitLemmas.{IsReady, pending_after, awaited_after, pending_opening, awaited_opening}
 use Rattle.model_laws.proofs.CarriedLemmas.{carried_after, apart_after, carried_opening, apart_opening}
 use Rattle.model_laws.proofs.CountLemmas.{IsWithin, within_after, within_opening}
 use Rattle.model_laws.proofs.CourseLemmas.{kept_from, state_each}
 use Rattle.model_laws.proofs.FewLemmas.{few_after, few_opening}
 use Rattle.model_laws.proofs.FitLemmas.{same_item}
+use Rattle.model_laws.proofs.GivenLemmas.{AreGiven, given_after, given_opening}
 use Rattle.model_laws.proofs.OrderlyLemmas.{AreOrderly, orderly_after, orderly_opening}
 use Rattle.model_laws.proofs.SentLemmas.{sent_after, sent_opening}
 use Rattle.model_laws.proofs.SizeLemmas.{HasNumbers, numbers_after, numbers_opening}
@@ -20,7 +22,7 @@ use Rattle.model_laws.specs.Courses.{state_at}
 use Rattle.model_laws.specs.EndLaws.{ClosingOnesStartNothing}
 use Rattle.model_laws.specs.LeaseLaws.{StreamsAreLeasedOnce}
 use Rattle.model_laws.specs.LimitLaws.{ConnectionsStayWithinLimits, StreamsStayWithinLimits}
-use Rattle.model_laws.specs.Sound.{LeasesAreCarried, LeasesAreApart, StartedAreSent, HasStreamsInOrder, IsShutDown, RowsAreApart, IsSound, StandingIsSound, ReachedIsSound}
+use Rattle.model_laws.specs.Sound.{LeasesAreCarried, LeasesAreApart, StartedAreSent, HasStreamsInOrder, GivesStreamsInOrder, PendingAreLeased, UnsentAwaitHanding, IsShutDown, RowsAreApart, IsSound, StandingIsSound, ReachedIsSound}
 use Rattle.model_histories.proofs.HistoryLemmas.{each_standing}
 use Rattle.model_histories.proofs.RunLemmas.{config-run}
 use Rattle.model_histories.specs.Histories.{opening, run, MayStand}
@@ -42,6 +44,9 @@ record Keeps (s : AbstractPool) : Type 0 where
   apart : LeasesAreApart s
   sent : StartedAreSent s
   orderly : AreOrderly s
+  given : AreGiven s
+  pending : PendingAreLeased s
+  awaited : UnsentAwaitHanding s
   moves : EachMoves s
   shut : IsSome s.shutdown → IsShutDown s
   within : IsWithin s
@@ -50,18 +55,23 @@ record Keeps (s : AbstractPool) : Type 0 where
   rows : RowsAreApart s
 
 keeps_after : (s : AbstractPool) (e : Entry) → MayStand s e → Keeps s → Keeps (after s e)
-keeps_after s e stand k = record {
-  carried = carried_after s e stand k.carried;
-  apart = apart_after s e stand k.carried k.apart;
-  sent = sent_after s e stand k.orderly k.sent;
-  orderly = orderly_after s e stand k.orderly;
-  moves = moves_after s e k.moves;
-  shut = shut_after s e stand k.shut;
-  within = within_after s e stand k.within;
-  numbers = numbers_after s e stand k.numbers;
-  few = few_after s e k.few;
-  rows = rows_after s e k.rows;
-}
+keeps_after s e stand k =
+    let ready : IsReady s = record { carried = k.carried; apart = k.apart; sent = k.sent; orderly = k.orderly; given = k.given; pending = k.pending; awaited = k.awaited } in
+    record {
+      carried = carried_after s e stand k.carried;
+      apart = apart_after s e stand k.carried k.apart;
+      sent = sent_after s e stand k.orderly k.sent;
+      orderly = orderly_after s e stand k.orderly;
+      given = given_after s e stand k.orderly k.pending k.given;
+      pending = pending_after s e stand ready;
+      awaited = awaited_after s e stand ready;
+      moves = moves_after s e k.moves;
+      shut = shut_after s e stand k.shut;
+      within = within_after s e stand k.within;
+      numbers = numbers_after s e stand k.numbers;
+      few = few_after s e k.few;
+      rows = rows_after s e k.rows;
+    }
 
 keeps_opening : (config : Config) → Keeps (opening config)
 keeps_opening config = record {
@@ -69,6 +79,9 @@ keeps_opening config = record {
   apart = apart_opening config;
   sent = sent_opening config;
   orderly = orderly_opening config;
+  given = given_opening config;
+  pending = pending_opening config;
+  awaited = awaited_opening config;
   moves = moves_opening config;
   shut = shut_opening config;
   within = within_opening config;
@@ -85,6 +98,9 @@ sound_with config s same k =
       apart = k.apart;
       sent = k.sent;
       orderly = λ number y is_item. subst (λ (c : Config). HasStreamsInOrder c y) same (k.orderly number y is_item);
+      given = λ number y is_item. subst (λ (c : Config). GivesStreamsInOrder c y) same (k.given number y is_item);
+      pending = k.pending;
+      awaited = k.awaited;
       moves = k.moves;
       shut = k.shut;
       within = record {

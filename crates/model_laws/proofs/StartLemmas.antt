@@ -41,7 +41,7 @@ starts_none act c = record { kept = λ r h. h; came = λ r h. inl h }
 starts_new : (act : Act) (c : ConnNo) (y : Connection) → y.started ≡ [] → Starts act c None (Some y)
 starts_new act c y none = record { kept = λ r h. absurd h; came = λ r h. absurd (none_started r (subst (λ rs. Contains rs r) none h)) }
 
-like_reported : (s : AbstractPool) (sent : ℕ) (r : Report) (x y : Connection) → IsReported s r (with_sent sent x) y → Like x y
+pub like_reported : (s : AbstractPool) (sent : ℕ) (r : Report) (x y : Connection) → IsReported s r (with_sent sent x) y → Like x y
 like_reported s sent (report.Opened id) x y is = ap (λ (z : Connection). z.started) is ∙ like_opened (is_some s.shutdown) s.latest id (with_sent sent x)
 like_reported s sent r x y is = like_leaves (with_sent sent x) y is
 

@@ -15,7 +15,7 @@ use Rattle.model_values.specs.declared.state.Connection.{Connection}
 
 -- ---- the streams of orders
 
-same_stream : (r t : StreamNo) → r.0 ≡ t.0 → t ≡ r
+pub same_stream : (r t : StreamNo) → r.0 ≡ t.0 → t ≡ r
 same_stream r t same = let whole : ℕ → StreamNo = λ k. record { 0 = k } in ap whole (sym same)
 
 pub none_started : (r : StreamNo) → Contains [] r → ⊥

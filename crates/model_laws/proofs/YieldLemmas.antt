@@ -66,7 +66,7 @@ lease_elsewhere conn c r (Leased d t by handed) f h =
     ne_eqb conn.0 c.0 (λ e. eqb-false d.0 conn.0 f (here ∙ sym e))
 lease_elsewhere conn c r (Ended how) f h = absurd cc
 
-moved_unleased : (c : ConnNo) (r : StreamNo) (e : Exchange) → is_at c r (moved e).status ≡ false
+pub moved_unleased : (c : ConnNo) (r : StreamNo) (e : Exchange) → is_at c r (moved e).status ≡ false
 moved_unleased c r e = by_moved (λ x. is_at c r x.status ≡ false) e refl (λ f. refl)
 
 -- one whose start isn't handed has the lease

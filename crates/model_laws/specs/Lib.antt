@@ -7,9 +7,11 @@ pub mod LeaseLaws
 pub mod LimitLaws
 pub mod LongerLaws
 pub mod MoveLaws
+pub mod OverLaws
 pub mod PlaceLaws
 pub mod PortLaws
 pub mod SettlingLaws
 pub mod Sound
+pub mod StartLaws
 pub mod TextLaws
 pub mod WorkerLaws

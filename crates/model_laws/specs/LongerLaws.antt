@@ -1,5 +1,5 @@
 -- Which calls make a history longer.
-use Rattle.std.specs.Prelude.{◌≡◌, ◌↔◌, ℕ, List, ◌∷◌, ◌++◌, max}
+use Rattle.std.specs.Prelude.{◌↔◌, ℕ, List, ◌∷◌, ◌++◌, max}
 use Rattle.net_base.specs.declared.numbers.Moment.{Moment}
 use Rattle.model_histories.specs.Histories.{run, IsHistory}
 use Rattle.model_histories.specs.Legal.{IsCallsEntry}

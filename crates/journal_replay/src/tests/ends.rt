@@ -53,6 +53,8 @@ const STREAM: &str =
 0 1 cancel 1 = cancelled
 ! 0 101 orders 1 0 = close
 0 101 orders 1 0 = reset 1
+! 0 101 stream-closed 1 0 3
+0 101 stream-closed 1 0 1
 ="#;
 
 /// A deadline that is reached already.

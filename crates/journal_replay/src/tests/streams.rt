@@ -157,6 +157,15 @@ const HEARD: &str = r#"0 101 closed 1 0 end 1
 0 1 cancel 1 = ended
 ="#;
 
+/// Where its answer leaves the connection open, the next one takes it.
+const KEPT: &str = r#"0 101 answered 1 64 1 keep 200 - - - none none
+0 1 submit https://top.test + 3 fore - plain GET http://a.test:80 / - - = accepted 2
+! 0 0 assign 2 1 1 direct
+0 0 assign 2 1 2 direct
+! 0 101 orders 1 64 = start 2 1
+0 101 orders 1 64 = start 2 2
+="#;
+
 pub(super) const COURSES: [Courses; 3] = [
     Courses {
         config: LIMITS,
@@ -171,6 +180,6 @@ pub(super) const COURSES: [Courses; 3] = [
     Courses {
         config: LIMITS,
         front: GET,
-        behind: &[UNHEARD, HEARD],
+        behind: &[UNHEARD, HEARD, KEPT],
     },
 ];

@@ -1,0 +1,5 @@
+use Rattle.model_laws.proofs.HandingLemmas.{starts_are_handed_once}
+use Rattle.model_laws.proofs.starts.starts_are_handed_once.Goals as goal
+
+pub returns : goal.returns
+returns c = starts_are_handed_once

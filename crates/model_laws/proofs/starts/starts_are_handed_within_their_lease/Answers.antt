@@ -1,0 +1,5 @@
+use Rattle.model_laws.proofs.HandingLemmas.{starts_are_handed_within_their_lease}
+use Rattle.model_laws.proofs.starts.starts_are_handed_within_their_lease.Goals as goal
+
+pub returns : goal.returns
+returns c = starts_are_handed_within_their_lease
