@@ -1,0 +1,4 @@
+pub mod Pools
+pub mod Ranges
+pub mod Steps
+pub mod Told
