@@ -1,11 +1,16 @@
 //! The program `probe`: it is to show parts of the pool that no scenario shows alone. It reads lines of standard input to its
 //! end. Each is one JSON object, whose text member `kind` says what is asked for, and is answered by one line of compact JSON;
-//! a bad line is answered by what is wrong with it, and the next one is read. The status says how it ended. No kind is known
-//! yet, so each line is bad. That each function is safe and returns is all that is promised here.
+//! a bad line is answered by what is wrong with it, and the next one is read. The status says how it ended. The kind `pool` makes
+//! the calls of a journal again on a new pool. That each function is safe and returns is all that is promised here.
 #![tactic(auto)]
 
 mod answer;
+mod calls;
+mod channel_calls;
 mod lines;
+mod pool;
+mod tickets;
+mod worker_calls;
 
 use lines::answer_lines;
 use std::io;
